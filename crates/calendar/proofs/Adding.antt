@@ -1,0 +1,100 @@
+-- Adding a span: the refusals in their order, and that what is taken keeps the rules.
+use mathlib.Core.Path.{_≡_, refl, sym, ap, _∙_}
+use mathlib.Core.Bool.{Bool, true, false, not, cond, _&&_, _||_}
+use mathlib.Core.Logic.{⊎-elim}
+use Prim.Native.Nat.{ℕ, zero, suc, _+_, _^_, _≤_, _<_}
+use native.Mathlib.Omega.{arith}
+use lib.ListN.{getD, length, set}
+use lib.Seq.{getD-set-same, getD-set-other}
+use lib.Dec.{leb, ltb}
+use borrow.Author.Tests.{le-leb, lt-leb, lt-ltb, le-ltb, leb-true, leb-false, ltb-false}
+use Rattle.calendar.specs.declared.TimeWindows.{TimeWindows}
+use Rattle.calendar.specs.declared.Calendar.{Calendar}
+use Rattle.calendar.specs.declared.Added.{Added}
+use Rattle.calendar.specs.Valid.{spansRight, valid}
+use Rattle.calendar.specs.Add.{addRefusal, withSpan, added}
+use Rattle.calendar.proofs.Basics.{and-join, same-or-not, lt-or-ge}
+use Rattle.calendar.proofs.Rules.{Cell, Right, right, righted, windows-right, blocks-right}
+
+module _ (c : Calendar) (n s e : ℕ) where
+  pub refuse-15 : valid c ≡ false → 15 ≡ addRefusal c n s e
+  unfolding addRefusal
+  refuse-15 v = simp v
+
+  pub refuse-start : valid c ≡ true → 2 ^ 42 < s → 1 ≡ addRefusal c n s e
+  unfolding addRefusal
+  refuse-start v a = simp (v, lt-ltb (2 ^ 42) s a)
+
+  pub refuse-end : valid c ≡ true → s ≤ 2 ^ 42 → 2 ^ 42 < e → 1 ≡ addRefusal c n s e
+  unfolding addRefusal
+  refuse-end v a b = simp (v, le-ltb (2 ^ 42) s a, lt-ltb (2 ^ 42) e b)
+
+  pub refuse-2 : valid c ≡ true → s ≤ 2 ^ 42 → e ≤ 2 ^ 42 → e ≤ s → 2 ≡ addRefusal c n s e
+  unfolding addRefusal
+  refuse-2 v a b l = simp (v, le-ltb (2 ^ 42) s a, le-ltb (2 ^ 42) e b, le-leb e s l)
+
+  pub refuse-4 : valid c ≡ true → s ≤ 2 ^ 42 → e ≤ 2 ^ 42 → s < e → 32 ≤ n → 4 ≡ addRefusal c n s e
+  unfolding addRefusal
+  refuse-4 v a b l m = simp (v, le-ltb (2 ^ 42) s a, le-ltb (2 ^ 42) e b, lt-leb e s l, le-leb 32 n m)
+
+  pub refuse-none : valid c ≡ true → s ≤ 2 ^ 42 → e ≤ 2 ^ 42 → s < e → n < 32 → 0 ≡ addRefusal c n s e
+  unfolding addRefusal
+  refuse-none v a b l m = simp (v, le-ltb (2 ^ 42) s a, le-ltb (2 ^ 42) e b, lt-leb e s l, lt-leb 32 n m)
+
+  -- what no refusal says
+  pub record Taken : Type 0 where
+    pub ruled : valid c ≡ true
+    pub ends : e ≤ 2 ^ 42
+    pub long : s < e
+    pub place : n < 32
+
+  pub taken : addRefusal c n s e ≡ 0 → Taken
+  unfolding addRefusal
+  taken = at-valid (valid c) refl
+    where
+      at-few : (b : Bool) → leb 32 n ≡ b → valid c ≡ true → e ≤ 2 ^ 42 → s < e → _≡_ {A = ℕ} (cond b 4 0) 0 → Taken
+      at-few true q v a l z = absurd (omega arith)
+      at-few false q v a l z = record { ruled = v; ends = a; long = l; place = leb-false 32 n q }
+
+      at-long : (b : Bool) → leb e s ≡ b → valid c ≡ true → e ≤ 2 ^ 42 → _≡_ {A = ℕ} (cond b 2 (cond (leb 32 n) 4 0)) 0 → Taken
+      at-long true q v a z = absurd (omega arith)
+      at-long false q v a z = at-few (leb 32 n) refl v a (leb-false e s q) z
+
+      at-instants : (b d : Bool) → ltb (2 ^ 42) s ≡ b → ltb (2 ^ 42) e ≡ d → valid c ≡ true → _≡_ {A = ℕ} (cond (b || d) 1 (cond (leb e s) 2 (cond (leb 32 n) 4 0))) 0 → Taken
+      at-instants true d q r v z = absurd (omega arith)
+      at-instants false true q r v z = absurd (omega arith)
+      at-instants false false q r v z = at-long (leb e s) refl v (ltb-false (2 ^ 42) e r) z
+
+      at-valid : (b : Bool) → valid c ≡ b → _≡_ {A = ℕ} (cond (not b) 15 (cond (ltb (2 ^ 42) s || ltb (2 ^ 42) e) 1 (cond (leb e s) 2 (cond (leb 32 n) 4 0)))) 0 → Taken
+      at-valid true v z = at-instants (ltb (2 ^ 42) s) (ltb (2 ^ 42) e) refl refl v z
+      at-valid false v z = absurd (omega arith)
+
+-- a refusal's reply, and that of a span that is taken
+pub added-refused : (n m : ℕ) (c more : Calendar) → n ≡ m → (n ≡ 0 → ⊥) → record { refusal = n; calendar = c } ≡ added m c more
+unfolding added
+added-refused zero m c more e h = absurd (h refl)
+added-refused (suc n) m c more e h = rw (← e) refl
+
+pub added-taken : (m : ℕ) (c more : Calendar) → m ≡ 0 → record { refusal = 0; calendar = more } ≡ added m c more
+unfolding added
+added-taken m c more h = rw h refl
+
+-- one span more keeps the rules
+pub span-right : (l : TimeWindows) (s e : ℕ) → length (l .starts) ≡ 32 → length (l .ends) ≡ 32 → l .len < 32 → s < e → e ≤ 2 ^ 42 → spansRight l ≡ true → spansRight (withSpan l s e) ≡ true
+unfolding withSpan
+span-right l s e a b m q z r =
+    let w = right l r in
+    let h : l .len < length (l .starts) = omega arith in
+    let g : l .len < length (l .ends) = omega arith in
+    righted _ (record {
+      few = omega arith;
+      cells = λ j k.
+          ⊎-elim
+          (λ (t : l .len ≡ j). rw (← t, getD-set-same, getD-set-same) (record { filled = λ u. (q, z); empty = λ u. absurd (omega arith) }))
+          (λ (t : j ≡ l .len → ⊥). rw (getD-set-other, getD-set-other) (record { filled = λ u. w .cells j k .filled (omega (arith, t)); empty = λ u. w .cells j k .empty (omega arith) }))
+          (same-or-not (l .len) j);
+    })
+
+pub valid-join : (c : Calendar) → spansRight (c .windows) ≡ true → spansRight (c .blocks) ≡ true → valid c ≡ true
+unfolding valid
+valid-join c a b = and-join _ _ a b

@@ -1,0 +1,48 @@
+-- Small facts on tests and numbers.
+use mathlib.Core.Path.{_≡_, refl, sym, ap, _∙_}
+use mathlib.Core.Bool.{Bool, true, false, not, _&&_, _||_}
+use mathlib.Core.Logic.{_⊎_, inl, inr}
+use Prim.Native.Nat.{ℕ, _≤_, _<_}
+use native.Mathlib.Omega.{arith}
+use lib.Dec.{leb, ltb, eqb}
+use borrow.Author.Tests.{ltb-true, ltb-false, eqb-true, eqb-false}
+
+pub and-split : (a b : Bool) → a && b ≡ true → (a ≡ true) × (b ≡ true)
+and-split true b e = (refl, e)
+and-split false b e = (e, cc)
+
+pub and-join : (a b : Bool) → a ≡ true → b ≡ true → a && b ≡ true
+and-join a b p q = rw (p, q) refl
+
+pub and-assoc : (a b d : Bool) → (a && b) && d ≡ a && (b && d)
+and-assoc true b d = refl
+and-assoc false b d = refl
+
+pub and-true : (a : Bool) → a && true ≡ a
+and-true true = refl
+and-true false = refl
+
+pub and-false : (a : Bool) → a && false ≡ false
+and-false true = refl
+and-false false = refl
+
+pub not-both : (b : Bool) → b ≡ true → b ≡ false → ⊥
+not-both b p q = let z : _≡_ {A = ℕ} 0 1 = cc in omega arith
+
+pub no-way : (b : Bool) → (b ≡ true → ⊥) → b ≡ false
+no-way true f = absurd (f refl)
+no-way false f = refl
+
+pub lt-or-ge : (a b : ℕ) → (a < b) ⊎ (b ≤ a)
+lt-or-ge a b = go (ltb a b) refl
+  where
+    go : (q : Bool) → ltb a b ≡ q → (a < b) ⊎ (b ≤ a)
+    go true e = inl (ltb-true a b e)
+    go false e = inr (ltb-false a b e)
+
+pub same-or-not : (a b : ℕ) → (a ≡ b) ⊎ (b ≡ a → ⊥)
+same-or-not a b = go (eqb a b) refl
+  where
+    go : (q : Bool) → eqb a b ≡ q → (a ≡ b) ⊎ (b ≡ a → ⊥)
+    go true e = inl (eqb-true a b e)
+    go false e = inr (λ q. eqb-false a b e (sym q))
