@@ -1,20 +1,19 @@
 -- Adding a span: the refusals in their order, and that what is taken keeps the rules.
-use mathlib.Core.Path.{_≡_, refl, sym, ap, _∙_}
-use mathlib.Core.Bool.{Bool, true, false, not, cond, _&&_, _||_}
+use mathlib.Core.Path.{_≡_, refl}
+use mathlib.Core.Bool.{Bool, true, false, not, cond, _||_}
 use mathlib.Core.Logic.{⊎-elim}
-use Prim.Native.Nat.{ℕ, zero, suc, _+_, _^_, _≤_, _<_}
+use Prim.Native.Nat.{ℕ, zero, suc, _^_, _≤_, _<_}
 use native.Mathlib.Omega.{arith}
-use lib.ListN.{getD, length, set}
+use lib.ListN.{length}
 use lib.Seq.{getD-set-same, getD-set-other}
 use lib.Dec.{leb, ltb}
-use borrow.Author.Tests.{le-leb, lt-leb, lt-ltb, le-ltb, leb-true, leb-false, ltb-false}
+use borrow.Author.Tests.{le-leb, lt-leb, lt-ltb, le-ltb, leb-false, ltb-false}
 use Rattle.calendar.specs.declared.TimeWindows.{TimeWindows}
 use Rattle.calendar.specs.declared.Calendar.{Calendar}
-use Rattle.calendar.specs.declared.Added.{Added}
 use Rattle.calendar.specs.Valid.{spansRight, valid}
 use Rattle.calendar.specs.Add.{addRefusal, withSpan, added}
-use Rattle.calendar.proofs.Basics.{and-join, same-or-not, lt-or-ge}
-use Rattle.calendar.proofs.Rules.{Cell, Right, right, righted, windows-right, blocks-right}
+use Rattle.calendar.specs.Basics.{and-join, same-or-not}
+use Rattle.calendar.proofs.Rules.{right, righted}
 
 module _ (c : Calendar) (n s e : ℕ) where
   pub refuse-15 : valid c ≡ false → 15 ≡ addRefusal c n s e

@@ -1,20 +1,18 @@
 -- The rules of a calendar as facts; spans with one more keep them.
-use mathlib.Core.Path.{_≡_, refl, sym, ap, _∙_}
+use mathlib.Core.Path.{_≡_, refl}
 use mathlib.Core.Bool.{Bool, true, false, _&&_, cond}
 use mathlib.Core.Logic.{_⊎_, ⊎-elim}
 use Prim.Native.Nat.{ℕ, zero, suc, _+_, _-_, _^_, _≤_, _<_}
 use native.Mathlib.Nat.{eq-or-lt-of-le}
 use native.Mathlib.Numerals.{add-one}
 use native.Mathlib.Omega.{arith}
-use lib.ListN.{getD, length, set}
-use lib.Seq.{getD-set-same, getD-set-other}
+use lib.ListN.{getD}
 use lib.Dec.{leb, ltb, eqb}
 use borrow.Author.Tests.{leb-true, ltb-true, ltb-false, eqb-true, le-leb, lt-ltb, le-ltb, eq-eqb}
 use Rattle.calendar.specs.declared.TimeWindows.{TimeWindows}
 use Rattle.calendar.specs.declared.Calendar.{Calendar}
 use Rattle.calendar.specs.Valid.{cellRight, cellsRight, spansRight, valid}
-use Rattle.calendar.specs.Add.{withSpan}
-use Rattle.calendar.proofs.Basics.{and-split, and-join, lt-or-ge, same-or-not}
+use Rattle.calendar.specs.Basics.{and-split, and-join, lt-or-ge}
 
 -- cell i of a list of n spans
 pub record Cell (i n s e : ℕ) : Type 0 where

@@ -1,10 +1,10 @@
 -- The end of work over stretches that are worked or not.
-use mathlib.Core.Path.{_≡_, refl, sym, ap, _∙_}
+use mathlib.Core.Path.{_≡_, refl, _∙_}
 use mathlib.Core.Bool.{Bool, true, false}
 use Prim.Native.Nat.{ℕ, zero, suc, _+_, _-_, _≤_, _<_}
 use native.Mathlib.Omega.{arith}
-use Rattle.calendar.specs.Search.{Found, nothing, at}
-use Rattle.calendar.specs.Work.{endFrom, workEnd}
+use Rattle.calendar.specs.Search.{nothing, at}
+use Rattle.calendar.specs.Work.{endFrom}
 
 -- k milliseconds that are worked, and k that are not
 pub run-on : (W : ℕ → Bool) (k p w n : ℕ) → k ≤ w → k ≤ n → ((q : ℕ) → p ≤ q → q < p + k → W q ≡ true) → endFrom W p w n ≡ endFrom W (p + k) (w - k) (n - k)

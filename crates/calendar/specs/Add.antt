@@ -1,7 +1,7 @@
 -- The replies of 'Window or block', singly.
 use Prim.Native.Nat.{ℕ, zero, suc, _+_, _^_}
-use mathlib.Core.Bool.{Bool, true, false, not, cond, _||_}
-use mathlib.Core.List.{List, replicate}
+use mathlib.Core.Bool.{not, cond, _||_}
+use mathlib.Core.List.{replicate}
 use lib.ListN.{set}
 use lib.Dec.{leb, ltb}
 use Rattle.calendar.specs.declared.TimeWindows.{TimeWindows}

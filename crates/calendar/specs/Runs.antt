@@ -1,10 +1,9 @@
 -- The calendars of the marked runs M7 and M8, on the definitions.
 use mathlib.Core.Path.{_≡_, refl}
-use mathlib.Core.List.{List, [], _∷_}
-use Prim.Native.Nat.{ℕ, zero, suc, _+_}
-use Rattle.calendar.specs.declared.TimeWindows.{TimeWindows}
+use mathlib.Core.List.{[], _∷_}
+use Prim.Native.Nat.{_+_}
 use Rattle.calendar.specs.declared.Calendar.{Calendar}
-use Rattle.calendar.specs.Search.{Found, nothing, at, leastFrom}
+use Rattle.calendar.specs.Search.{nothing, at, leastFrom}
 use Rattle.calendar.specs.Spans.{spansFrom, any, holds, meets, contains}
 use Rattle.calendar.specs.Fits.{openFor, fits}
 use Rattle.calendar.specs.Work.{working, joint, endFrom, workEnd, latest, lastChange, jointEnd}

@@ -1,6 +1,6 @@
 -- When a calendar keeps the rules: at most 32 windows and 32 blocks, each with start < end and both instants, and 0 in every cell past a length.
 use Prim.Native.Nat.{ℕ, zero, suc, _^_}
-use mathlib.Core.Bool.{Bool, true, false, _&&_, cond}
+use mathlib.Core.Bool.{Bool, true, _&&_, cond}
 use lib.ListN.{getD}
 use lib.Dec.{leb, ltb, eqb}
 use Rattle.calendar.specs.declared.TimeWindows.{TimeWindows}

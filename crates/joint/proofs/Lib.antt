@@ -4,3 +4,4 @@ pub mod Sorting
 pub mod Sweeping
 pub mod Laying
 pub mod Walking
+pub mod Ending

@@ -1,7 +1,7 @@
 -- Working time laid out as the rising instants at which it begins and ends in turn, and what the functions over it answer.
 use mathlib.Core.Path.{_≡_}
-use Prim.Native.Nat.{ℕ, zero, suc, _+_, _%_, _^_, _≤_, _<_}
-use mathlib.Core.Bool.{Bool, true, false, cond}
+use Prim.Native.Nat.{ℕ, zero, suc, _+_, _%_, _^_, _<_}
+use mathlib.Core.Bool.{Bool, true, cond}
 use mathlib.Core.List.{List, []}
 use lib.ListN.{getD}
 use lib.Dec.{leb, eqb}

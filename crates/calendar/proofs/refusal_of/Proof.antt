@@ -1,52 +1,39 @@
+-- `calendar::refusal_of` meets its contract.
 use borrow.Author.Needs.{needs}
-use borrow.Author.Count.{below-none, below-more}
-use borrow.Author.Tests.{not-true, not-false, ltb-true, ltb-false}
-use mathlib.Core.Path.{_≡_, refl, sym, ap, _∙_}
-use mathlib.Core.Bool.{true, false}
-use mathlib.Core.Logic.{⊎-elim, inl, inr}
-use Prim.Native.Nat.{ℕ, suc, zero, _+_, _-_, _*_, _^_, _≤_, _<_, max}
+use borrow.Author.Tests.{not-true, not-false}
+use mathlib.Core.Path.{sym, _∙_}
+use Prim.Native.Nat.{_-_}
 use native.Mathlib.Omega.{arith}
-use lib.ListN.{length, getD}
 use Rattle.calendar.proofs.Adding.{refuse-15, refuse-start, refuse-end, refuse-2, refuse-4, refuse-none}
 use Rattle.calendar.proofs.refusal_of.Statement.{statement}
 use Rattle.calendar.proofs.refusal_of.Tie as tie
-use Rattle.calendar.proofs.refusal_of.Reads as reads
-use Rattle.calendar.proofs.refusal_of.Lts as lts
-use Rattle.calendar.proofs.is_valid.Reads as is-valid-reads
 
--- src/lib.rt:76:9
 is-valid-requires : tie.Need-is-valid-requires
 is-valid-requires c κs = search needs
 
--- src/lib.rt:77:9
 returns : tie.Need-returns
 returns c = refuse-15 _ _ _ _ (sym (c .before .is-valid .ensures) ∙ not-true _ (c .if1 .taken))
 
--- src/lib.rt:80:9
 returns-2 : tie.Need-returns-2
 returns-2 c =
     let v = sym (c .before .before .is-valid .ensures) ∙ not-false _ (c .before .if1 .left) in
     refuse-start _ _ _ _ v (omega arith)
 
--- src/lib.rt:83:9
 returns-3 : tie.Need-returns-3
 returns-3 c =
     let v = sym (c .before .before .before .is-valid .ensures) ∙ not-false _ (c .before .before .if1 .left) in
     refuse-end _ _ _ _ v (omega arith) (omega arith)
 
--- src/lib.rt:86:9
 returns-4 : tie.Need-returns-4
 returns-4 c =
     let v = sym (c .before .before .before .before .is-valid .ensures) ∙ not-false _ (c .before .before .before .if1 .left) in
     refuse-2 _ _ _ _ v (omega arith) (omega arith) (omega arith)
 
--- src/lib.rt:89:9
 returns-5 : tie.Need-returns-5
 returns-5 c =
     let v = sym (c .before .before .before .before .before .is-valid .ensures) ∙ not-false _ (c .before .before .before .before .if1 .left) in
     refuse-4 _ _ _ _ v (omega arith) (omega arith) (omega arith) (omega arith)
 
--- src/lib.rt:73:1
 returns-6 : tie.Need-returns-6
 returns-6 c =
     let v = sym (c .before .before .before .before .before .is-valid .ensures) ∙ not-false _ (c .before .before .before .before .if1 .left) in

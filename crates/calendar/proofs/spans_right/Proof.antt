@@ -1,22 +1,13 @@
+-- `calendar::spans_right` meets its contract. The loop: what is left of the cells decides as all of them do.
 use borrow.Author.Needs.{needs}
-use borrow.Author.Count.{below-none, below-more}
-use borrow.Author.Tests.{not-true, not-false, ltb-true, ltb-false}
-use mathlib.Core.Path.{_≡_, refl, sym, ap, _∙_}
-use mathlib.Core.Bool.{true, false}
-use mathlib.Core.Logic.{⊎-elim, inl, inr}
-use Prim.Native.Nat.{ℕ, suc, zero, _+_, _-_, _*_, _^_, _≤_, _<_, max}
+use borrow.Author.Tests.{not-true, not-false, le-leb, lt-leb}
+use mathlib.Core.Path.{_≡_, refl, sym, _∙_}
+use Prim.Native.Nat.{_-_, _≤_}
 use native.Mathlib.Omega.{arith}
-use lib.ListN.{length, getD}
-use borrow.Author.Tests.{leb-true, leb-false, eqb-true, eqb-false, lt-ltb, le-ltb, le-leb, lt-leb, eq-eqb, ne-eqb}
-use lib.Dec.{leb, ltb, eqb}
-use mathlib.Core.Bool.{Bool, not, cond, _&&_, _||_}
-use Rattle.calendar.specs.Valid.{cellRight, cellsRight, spansRight}
+use Rattle.calendar.specs.Valid.{cellsRight, spansRight}
 use Rattle.calendar.proofs.Rules.{cells-step}
 use Rattle.calendar.proofs.spans_right.Statement.{statement}
 use Rattle.calendar.proofs.spans_right.Tie as tie
-use Rattle.calendar.proofs.spans_right.Reads as reads
-use Rattle.calendar.proofs.spans_right.Lts as lts
-use Rattle.calendar.proofs.cell_right.Reads as cell-right-reads
 
 abbrev Inv-loop : tie.InvT-loop
 Inv-loop l n i₀ i = (n ≡ l .len) × (n ≤ 32) × (i ≤ 32) × (spansRight l ≡ cellsRight l i (32 - i))
@@ -24,59 +15,47 @@ Inv-loop l n i₀ i = (n ≡ l .len) × (n ≤ 32) × (i ≤ 32) × (spansRight 
 abbrev μ-loop : tie.MeasureT-loop
 μ-loop l n i₀ i = 32 - i
 
--- src/lib.rt:50:9
 returns : tie.Need-returns Inv-loop μ-loop
 unfolding spansRight
 returns c = rw (lt-leb _ _ (c .if1 .taken)) refl
 
--- src/lib.rt:53:5
 loop-holds : tie.Need-loop-holds Inv-loop μ-loop
 unfolding spansRight
 loop-holds c = (refl, omega arith, omega arith, rw (le-leb _ _ (c .if1 .left)) refl)
 
--- src/lib.rt:54:30
 mul-cell-right : tie.Need-mul-cell-right Inv-loop μ-loop
 mul-cell-right c = search needs
 
--- src/lib.rt:54:30
 element-copy-out-cell-right : tie.Need-element-copy-out-cell-right Inv-loop μ-loop
 element-copy-out-cell-right c = search needs
 
--- src/lib.rt:54:43
 mul-cell-right-2 : tie.Need-mul-cell-right-2 Inv-loop μ-loop
 mul-cell-right-2 c = search needs
 
--- src/lib.rt:54:43
 element-copy-out-cell-right-2 : tie.Need-element-copy-out-cell-right-2 Inv-loop μ-loop
 element-copy-out-cell-right-2 c = search needs
 
--- src/lib.rt:54:13
 cell-right-requires : tie.Need-cell-right-requires Inv-loop μ-loop
 cell-right-requires c κs = search needs
 
--- src/lib.rt:55:13
 returns-2 : tie.Need-returns-2 Inv-loop μ-loop
 returns-2 c =
     let e = sym (c .before .cell-right .ensures) ∙ not-true _ (c .if2 .taken) in
     let v = c .before .before .before .before .before .loop .inv in
     sym (v .3 ∙ cells-step _ _ (c .before .before .before .before .loop-test .taken) ∙ rw e refl)
 
--- src/lib.rt:57:9
 add-i : tie.Need-add-i Inv-loop μ-loop
 add-i c = search needs
 
--- src/lib.rt:53:5
 loop-less : tie.Need-loop-less Inv-loop μ-loop
 loop-less c = search needs
 
--- src/lib.rt:53:5
 loop-again : tie.Need-loop-again Inv-loop μ-loop
 loop-again c =
     let e = sym (c .before .cell-right .ensures) ∙ not-false _ (c .if2 .left) in
     let v = c .before .before .before .before .before .loop .inv in
     (refl, omega arith, omega arith, v .3 ∙ cells-step _ _ (c .before .before .before .before .loop-test .taken) ∙ rw e refl)
 
--- src/lib.rt:45:1
 returns-3 : tie.Need-returns-3 Inv-loop μ-loop
 unfolding cellsRight
 returns-3 c =

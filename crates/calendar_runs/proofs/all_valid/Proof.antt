@@ -1,19 +1,16 @@
+-- `calendar_runs::all_valid` meets its contract.
 use borrow.Author.Needs.{needs}
-use borrow.Author.Count.{below-none, below-more}
-use borrow.Author.Tests.{not-true, not-false, ltb-true, ltb-false}
-use mathlib.Core.Path.{_≡_, refl, sym, ap, _∙_}
-use mathlib.Core.Bool.{true, false}
-use mathlib.Core.Logic.{⊎-elim, inl, inr}
-use Prim.Native.Nat.{ℕ, suc, zero, _+_, _-_, _*_, _^_, _≤_, _<_, max}
+use borrow.Author.Count.{below-more}
+use borrow.Author.Tests.{not-false}
+use mathlib.Core.Path.{_≡_, refl, sym, _∙_}
+use mathlib.Core.Bool.{false}
+use Prim.Native.Nat.{_-_, _≤_}
 use native.Mathlib.Omega.{arith}
-use lib.ListN.{length, getD}
+use lib.ListN.{length}
 use Rattle.joint.specs.Layout.{Ruled}
-use Rattle.calendar.proofs.Basics.{not-both}
+use Rattle.calendar.specs.Basics.{not-both}
 use Rattle.calendar_runs.proofs.all_valid.Statement.{statement}
 use Rattle.calendar_runs.proofs.all_valid.Tie as tie
-use Rattle.calendar_runs.proofs.all_valid.Reads as reads
-use Rattle.calendar_runs.proofs.all_valid.Lts as lts
-use Rattle.calendar.proofs.is_valid.Reads as is-valid-reads
 
 abbrev Inv-loop : tie.InvT-loop
 Inv-loop n cs i₀ i = (i ≤ n) × (n ≤ 25) × (length cs ≡ 25) × Ruled cs i
@@ -21,45 +18,35 @@ Inv-loop n cs i₀ i = (i ≤ n) × (n ≤ 25) × (length cs ≡ 25) × Ruled cs
 abbrev μ-loop : tie.MeasureT-loop
 μ-loop n cs i₀ i = n - i
 
--- src/main.rt:140:9
 returns : tie.Need-returns Inv-loop μ-loop
 returns c = λ e. absurd (not-both false e refl)
 
--- src/main.rt:143:5
 loop-holds : tie.Need-loop-holds Inv-loop μ-loop
 loop-holds c = (omega arith, omega arith, search needs, λ k h. absurd (omega arith))
 
--- src/main.rt:144:17
 mul-c : tie.Need-mul-c Inv-loop μ-loop
 mul-c c = search needs
 
--- src/main.rt:144:17
 array-copy-out-c : tie.Need-array-copy-out-c Inv-loop μ-loop
 array-copy-out-c c = search needs
 
--- src/main.rt:145:13
 is-valid-requires : tie.Need-is-valid-requires Inv-loop μ-loop
 is-valid-requires c κs = search needs
 
--- src/main.rt:146:13
 returns-2 : tie.Need-returns-2 Inv-loop μ-loop
 returns-2 c = λ e. absurd (not-both false e refl)
 
--- src/main.rt:148:9
 add-i : tie.Need-add-i Inv-loop μ-loop
 add-i c = search needs
 
--- src/main.rt:143:5
 loop-less : tie.Need-loop-less Inv-loop μ-loop
 loop-less c = search needs
 
--- src/main.rt:143:5
 loop-again : tie.Need-loop-again Inv-loop μ-loop
 loop-again c =
     let v = c .before .before .before .before .loop .inv in
     (omega arith, omega arith, v .2, below-more _ _ (v .3) (sym (c .before .is-valid .ensures) ∙ not-false _ (c .if2 .left)))
 
--- src/main.rt:136:1
 returns-3 : tie.Need-returns-3 Inv-loop μ-loop
 returns-3 c =
     λ e.

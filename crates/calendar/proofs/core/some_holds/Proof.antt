@@ -1,19 +1,15 @@
+-- `calendar::core::some_holds` meets its contract. The loop: what is left of the spans decides as all of them do.
 use borrow.Author.Needs.{needs}
-use borrow.Author.Count.{below-none, below-more}
-use borrow.Author.Tests.{not-true, not-false, ltb-true, ltb-false}
-use mathlib.Core.Path.{_≡_, refl, sym, ap, _∙_}
-use mathlib.Core.Bool.{true, false}
-use mathlib.Core.Logic.{⊎-elim, inl, inr}
-use Prim.Native.Nat.{ℕ, suc, zero, _+_, _-_, _*_, _^_, _≤_, _<_, max}
+use mathlib.Core.Path.{_≡_, refl, sym, _∙_}
+use mathlib.Core.Bool.{false}
+use mathlib.Core.Logic.{⊎-elim}
+use Prim.Native.Nat.{_-_, _≤_}
 use native.Mathlib.Omega.{arith}
-use lib.ListN.{length, getD}
 use Rattle.calendar.specs.Spans.{spanAt, spansFrom, spans, any, holds}
-use Rattle.calendar.proofs.Spanning.{any-step, any-end, holds-yes, holds-no}
+use Rattle.calendar.specs.Spanning.{any-step, any-end, holds-yes, holds-no}
 use native.Mathlib.Nat.{sub-zero}
 use Rattle.calendar.proofs.core.some_holds.Statement.{statement}
 use Rattle.calendar.proofs.core.some_holds.Tie as tie
-use Rattle.calendar.proofs.core.some_holds.Reads as reads
-use Rattle.calendar.proofs.core.some_holds.Lts as lts
 
 abbrev Inv-loop : tie.InvT-loop
 Inv-loop start end l n i₀ i = (n ≡ l .len) × (n ≤ 32) × (i ≤ n) × (any (holds start end) (spans l) ≡ any (holds start end) (spansFrom l i (n - i)))
@@ -21,42 +17,33 @@ Inv-loop start end l n i₀ i = (n ≡ l .len) × (n ≤ 32) × (i ≤ n) × (an
 abbrev μ-loop : tie.MeasureT-loop
 μ-loop start end l n i₀ i = n - i
 
--- src/core.rt:18:5
 loop-holds : tie.Need-loop-holds Inv-loop μ-loop
 loop-holds c = (refl, omega arith, omega arith, rw (sub-zero (c .args .t1 .len)) refl)
 
--- src/core.rt:19:12
 mul-if1 : tie.Need-mul-if1 Inv-loop μ-loop
 mul-if1 c = search needs
 
--- src/core.rt:19:12
 element-copy-out-if1 : tie.Need-element-copy-out-if1 Inv-loop μ-loop
 element-copy-out-if1 c = search needs
 
--- src/core.rt:20:23
 mul-if2 : tie.Need-mul-if2 Inv-loop μ-loop
 mul-if2 c = search needs
 
--- src/core.rt:20:23
 element-copy-out-if2 : tie.Need-element-copy-out-if2 Inv-loop μ-loop
 element-copy-out-if2 c = search needs
 
--- src/core.rt:21:17
 returns : tie.Need-returns Inv-loop μ-loop
 returns c =
     let v = c .before .before .before .before .before .loop .inv in
     let e = holds-yes _ _ _ (c .before .before .if1 .taken) (c .if2 .taken) in
     sym (v .3 ∙ any-step _ _ _ _ (c .before .before .before .before .loop-test .taken) ∙ rw e refl)
 
--- src/core.rt:24:9
 add-i : tie.Need-add-i Inv-loop μ-loop
 add-i c = search needs
 
--- src/core.rt:18:5
 loop-less : tie.Need-loop-less Inv-loop μ-loop
 loop-less c = search needs
 
--- src/core.rt:18:5
 loop-again : tie.Need-loop-again Inv-loop μ-loop
 loop-again c =
     let v = c .before .before .before .loop .inv in
@@ -65,7 +52,6 @@ loop-again c =
     holds-no _ _ _ (λ h g. ⊎-elim (λ w. omega arith) (λ w. omega arith) (c .if1 .came)) in
     (refl, omega arith, omega arith, v .3 ∙ any-step _ _ _ _ (c .before .before .loop-test .taken) ∙ rw e refl)
 
--- src/core.rt:12:1
 returns-2 : tie.Need-returns-2 Inv-loop μ-loop
 returns-2 c =
     let v = c .before .loop .inv in

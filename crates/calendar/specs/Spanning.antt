@@ -1,18 +1,16 @@
 -- One of several spans passes a test: how the loops go on, and the tests as facts.
-use mathlib.Core.Path.{_≡_, refl, sym, ap, _∙_}
+use mathlib.Core.Path.{_≡_, refl, sym, _∙_}
 use mathlib.Core.Bool.{Bool, true, false, not, _&&_, _||_}
-use mathlib.Core.List.{List, [], _∷_}
-use mathlib.Core.Logic.{_⊎_, inl, inr, ⊎-elim}
+use mathlib.Core.Logic.{_⊎_, ⊎-elim}
 use Prim.Native.Nat.{ℕ, zero, suc, _+_, _-_, _≤_, _<_}
 use native.Mathlib.Numerals.{add-one}
 use native.Mathlib.Omega.{arith}
-use lib.ListN.{getD}
 use lib.Dec.{leb, ltb}
 use borrow.Author.Tests.{leb-true, ltb-true, le-leb, lt-ltb}
 use Rattle.calendar.specs.declared.TimeWindows.{TimeWindows}
 use Rattle.calendar.specs.Spans.{Span, spanAt, spansFrom, spans, any, holds, meets, contains}
 use Rattle.calendar.specs.Fits.{openFor}
-use Rattle.calendar.proofs.Basics.{and-split, and-true, and-false, no-way}
+use Rattle.calendar.specs.Basics.{and-split, and-true, and-false, or-true, or-false, or-assoc, not-both, no-way, lt-or-ge}
 
 pub any-step : (P : Span → Bool) (l : TimeWindows) (i n : ℕ) → i < n → any P (spansFrom l i (n - i)) ≡ P (spanAt l i) || any P (spansFrom l (i + 1) (n - (i + 1)))
 unfolding any spansFrom
@@ -32,17 +30,41 @@ unfolding any spansFrom
 any-last P l i zero =
     let e : i + 0 ≡ i = omega arith in
     rw e (or-false (P (spanAt l i)))
-  where
-    or-false : (b : Bool) → b || false ≡ false || b
-    or-false true = refl
-    or-false false = refl
 any-last P l i (suc n) =
     let e : i + suc n ≡ suc i + n = omega arith in
     rw (e, any-last P l (suc i) n) (or-assoc (P (spanAt l i)) (any P (spansFrom l (suc i) n)) (P (spanAt l (suc i + n))))
+
+-- which span it is, and that none is
+pub any-some : (P : Span → Bool) (l : TimeWindows) (n : ℕ) → any P (spansFrom l 0 n) ≡ true → (k : ℕ) × (k < n) × (P (spanAt l k) ≡ true)
+any-some P l zero t = absurd (not-both _ t (any-end P l 0 0 (omega arith)))
+any-some P l (suc n) t = go (P (spanAt l n)) refl (rw z at (any-last P l 0 n)) (any-some P l n)
   where
-    or-assoc : (a b d : Bool) → a || (b || d) ≡ (a || b) || d
-    or-assoc true b d = refl
-    or-assoc false b d = refl
+    z : 0 + n ≡ n
+    z = omega arith
+
+    go : (b : Bool) → P (spanAt l n) ≡ b → any P (spansFrom l 0 (suc n)) ≡ any P (spansFrom l 0 n) || P (spanAt l n) → (any P (spansFrom l 0 n) ≡ true → (k : ℕ) × (k < n) × (P (spanAt l k) ≡ true)) → (k : ℕ) × (k < suc n) × (P (spanAt l k) ≡ true)
+    go true e f ih = (n, omega arith, e)
+    go false e f ih =
+        let r = ih (sym (rw (e, or-false (any P (spansFrom l 0 n))) at f) ∙ t) in
+        (r .0, omega (arith, r .1), r .2)
+
+pub some-any : (P : Span → Bool) (l : TimeWindows) (n k : ℕ) → k < n → P (spanAt l k) ≡ true → any P (spansFrom l 0 n) ≡ true
+some-any P l zero k h t = absurd (omega arith)
+some-any P l (suc n) k h t =
+    let z : 0 + n ≡ n = omega arith in
+    rw z at (any-last P l 0 n)
+    ∙ ⊎-elim
+    (λ (e : k < n). rw (some-any P l n k e t) refl)
+    (λ (e : n ≤ k).
+    let q : k ≡ n = omega arith in
+    rw (← q, t) (or-true (any P (spansFrom l 0 k))))
+    (lt-or-ge k n)
+
+pub any-none : (P : Span → Bool) (l : TimeWindows) (n : ℕ) → any P (spansFrom l 0 n) ≡ false → (k : ℕ) → k < n → P (spanAt l k) ≡ false
+any-none P l n t k h = no-way _ (λ q. not-both _ (some-any P l n k h q) t)
+
+pub none-any : (P : Span → Bool) (l : TimeWindows) (n : ℕ) → ((k : ℕ) → k < n → P (spanAt l k) ≡ false) → any P (spansFrom l 0 n) ≡ false
+none-any P l n f = no-way _ (λ q. let r = any-some P l n q in not-both _ (r .2) (f (r .0) (r .1)))
 
 -- the windows are open: no windows, or one of them passes
 pub open-none : (P : Span → Bool) (l : TimeWindows) → l .len ≡ 0 → openFor P (spans l) ≡ true

@@ -1,0 +1,76 @@
+-- What `work_end` over a layout is of the calendars that were laid out, and where a layout's pieces begin.
+use mathlib.Core.Path.{_≡_, refl, sym, ap, _∙_}
+use mathlib.Core.Bool.{true, false, _&&_}
+use mathlib.Core.List.{List, [], _∷_}
+use mathlib.Core.Logic.{_⊎_, ⊎-elim}
+use Prim.Native.Nat.{ℕ, zero, suc, _-_, _≤_, _<_}
+use native.Mathlib.Omega.{arith}
+use lib.ListN.{getD}
+use lib.Dec.{leb}
+use borrow.Author.Tests.{le-leb, lt-leb}
+use Rattle.calendar.specs.declared.Calendar.{Calendar}
+use Rattle.calendar.specs.Basics.{and-true, lt-or-ge, not-both}
+use Rattle.calendar.specs.Work.{working, joint, workEnd, lastChange, jointEnd}
+use Rattle.calendar.specs.Meaning.{Changeless, work-end-same, joint-changeless}
+use Rattle.joint.specs.Layout.{passed, odd, laid, lastCell, Edges, Layout}
+use Rattle.joint.specs.Sweep.{Parted}
+use Rattle.joint.proofs.Passing.{passed-all}
+use Rattle.joint.proofs.Walking.{last-most}
+
+-- past its last edge a layout changes no more
+pub laid-changeless : (xs : List ℕ) (n : ℕ) → Edges xs n → Changeless (lastCell xs n) (laid xs n)
+unfolding laid
+laid-changeless xs n y q h =
+    ap odd (passed-all xs n q (λ k l. omega (arith, last-most xs n k y l)) ∙ sym (passed-all xs n (lastCell xs n) (λ k l. last-most xs n k y l)))
+
+-- work from x on, over the joint working time of the calendars from some instant at or before x on
+pub layout-end : (cs : List Calendar) (from : ℕ) (xs : List ℕ) (n x w : ℕ) → Layout (λ p. leb from p && joint cs p) xs n → from ≤ x → workEnd (lastCell xs n) (laid xs n) x w ≡ jointEnd cs x w
+layout-end cs from xs n x w y h =
+    work-end-same (lastCell xs n) (lastChange cs) (laid xs n) (joint cs) x w (laid-changeless xs n (y .edges)) (joint-changeless cs)
+    (λ q l. y .means q ∙ rw (le-leb from q (omega arith)) refl)
+
+pub layout-end-one : (c : Calendar) (xs : List ℕ) (n x w : ℕ) → Layout (working c) xs n → workEnd (lastCell xs n) (laid xs n) x w ≡ jointEnd (c ∷ []) x w
+unfolding joint
+layout-end-one c xs n x w y =
+    work-end-same (lastCell xs n) (lastChange (c ∷ [])) (laid xs n) (joint (c ∷ [])) x w (laid-changeless xs n (y .edges)) (joint-changeless (c ∷ []))
+    (λ q l. y .means q ∙ sym (and-true (working c q)))
+
+-- the edges part at every instant
+pub parted : (xs : List ℕ) (n p : ℕ) → Edges xs n → Parted xs n p (passed xs n p)
+unfolding passed
+parted xs zero p y = record { few = omega arith; low = λ k h. absurd (omega arith); high = λ k h l. absurd (omega arith) }
+parted xs (suc n) p y =
+    ⊎-elim
+    (λ (h : p < getD xs n 0).
+    let r = parted xs n p (record { rising = λ j k a b. y .rising j k a (omega arith); below = λ k a. y .below k (omega arith) }) in
+    let e : passed xs (suc n) p ≡ passed xs n p = rw (passed, lt-leb (getD xs n 0) p h) (omega arith) in
+    rw e (record {
+      few = omega (arith, r .few);
+      low = r .low;
+      high = λ k a b. ⊎-elim (λ (z : k < n). r .high k a z) (λ (z : n ≤ k). let q : n ≡ k = omega arith in rw (← q) h) (lt-or-ge k n);
+    }))
+    (λ (h : getD xs n 0 ≤ p).
+    let low : (k : ℕ) → k < suc n → getD xs k 0 ≤ p = λ k a. ⊎-elim (λ (z : k < n). omega (arith, y .rising k n z (omega arith))) (λ (z : n ≤ k). let q : n ≡ k = omega arith in rw (← q) h) (lt-or-ge k n) in
+    rw (passed-all xs (suc n) p low) (record { few = omega arith; low = low; high = λ k a b. absurd (omega arith) }))
+    (lt-or-ge p (getD xs n 0))
+
+-- work begins only at an edge, and one with an even number before it
+pub begins : (xs : List ℕ) (n x : ℕ) → Edges xs n → laid xs n x ≡ false → laid xs n (suc x) ≡ true → (k : ℕ) × (k < n) × (getD xs k 0 ≡ suc x) × (odd k ≡ false)
+unfolding laid
+begins xs n x y off on =
+    let a = parted xs n x y in
+    let b = parted xs n (suc x) y in
+    let i = passed xs n x in
+    let j = passed xs n (suc x) in
+    ⊎-elim
+    (λ (z : i < j).
+    let l : i < n = omega (arith, b .few) in
+    (i, l, omega (arith, b .low i z, a .high i (omega arith) l), off))
+    (λ (z : j ≤ i).
+    ⊎-elim
+    (λ (w : j < i). absurd (omega (arith, a .low j w, b .high j (omega arith) (omega (arith, a .few)))))
+    (λ (w : i ≤ j).
+    let e : i ≡ j = omega arith in
+    absurd (not-both (odd j) on (ap odd (sym e) ∙ off)))
+    (lt-or-ge j i))
+    (lt-or-ge i j)
