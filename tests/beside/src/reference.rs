@@ -244,11 +244,12 @@ impl Reference {
     }
 
     /// As `schedule` books a placement: each entry's timeline, and the category where the entry
-    /// is no companion and the resource has a matrix.
+    /// is no companion and the resource has a matrix. An entry that is not on the board comes up
+    /// only where the slates already differ, and is passed over.
     fn commit(&mut self, count: usize, start: i64, end: i64) {
         for &(number, _, units, companion) in &self.slate[..count] {
             let id = resource_id(number);
-            let timeline = self.timelines.get_mut(&id).expect("inside the limits: on the board");
+            let Some(timeline) = self.timelines.get_mut(&id) else { continue };
             timeline.book(start, end, units as i32);
             if !companion && self.tables.contains_key(&number) {
                 self.last_category.insert(id, self.task.category.clone());
