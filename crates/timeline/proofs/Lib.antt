@@ -1,0 +1,10 @@
+-- Laws on plain values, for the proofs of this crate and of those above it.
+pub mod Rules
+pub mod Shift
+pub mod Rows
+pub mod Loading
+pub mod Searching
+pub mod Stepping
+pub mod Gaps
+pub mod Finding
+pub mod Meaning

@@ -1,0 +1,142 @@
+-- What the definitions of a diary amount to: the least start without any bound, work without a calendar, and extra bookings.
+use mathlib.Core.Path.{_≡_, refl, sym, ap, _∙_, fun-ext}
+use mathlib.Core.Bool.{Bool, true, false, _&&_, cond}
+use mathlib.Core.List.{List, [], _∷_}
+use mathlib.Core.Logic.{_⊎_, inl, inr, ⊎-elim}
+use Prim.Native.Nat.{ℕ, zero, suc, _+_, _-_, _≤_, _<_}
+use native.Mathlib.Omega.{arith}
+use lib.Dec.{eqb}
+use borrow.Author.Tests.{eqb-true, eq-eqb}
+use Rattle.calendar.specs.declared.Calendar.{Calendar}
+use Rattle.calendar.specs.Basics.{and-split, no-way, not-both}
+use Rattle.calendar.specs.Search.{Found, nothing, at, leastFrom}
+use Rattle.calendar.specs.Fits.{fits}
+use Rattle.calendar.specs.Work.{working, joint, endFrom, workEnd, lastChange, jointEnd}
+use Rattle.calendar.specs.Meaning.{Least, least-found, fits-is, working-is}
+use Rattle.calendar.proofs.Running.{run-done}
+use Rattle.timeline.specs.declared.ResourceTimeline.{ResourceTimeline}
+use Rattle.timeline.specs.Bookings.{Booking, bookings}
+use Rattle.timeline.specs.Valid.{valid}
+use Rattle.timeline.specs.Free.{onAt, load, free}
+use Rattle.timeline.specs.Earliest.{freeOn, fitsAt, freeTo, startsAt, lastEvent, earliestFit, earliestResumable}
+use Rattle.timeline.proofs.Rules.{rules}
+use Rattle.timeline.proofs.Loading.{free-facts, free-yes}
+use Rattle.timeline.proofs.Searching.{none-ever}
+use Rattle.timeline.proofs.Stepping.{fits-at-back, starts-at-back, last-still, joint-one}
+
+-- s is the least instant at or after `from` at which P holds
+pub record Earliest (P : ℕ → Bool) (from s : ℕ) : Type 0 where
+  pub low : from ≤ s
+  pub holds : P s ≡ true
+  pub first : (x : ℕ) → from ≤ x → x < s → P x ≡ false
+
+module _ (t : ResourceTimeline) (v : valid t ≡ true) (from span u : ℕ) where
+  -- `earliest_fit` answers with the least start at which the span fits, and with nothing only if it fits at no instant from `from` on
+  pub fit-means : (s : ℕ) → earliestFit t from span u ≡ at s → Earliest (fitsAt t span u) from s
+  unfolding earliestFit
+  fit-means s e = let r = least-found (fitsAt t span u) from (suc (lastEvent t - from)) s e in record { low = r .low; holds = r .holds; first = r .first }
+
+  pub none-means : earliestFit t from span u ≡ nothing → (x : ℕ) → from ≤ x → fitsAt t span u x ≡ false
+  unfolding earliestFit
+  none-means e = none-ever (fitsAt t span u) from (lastEvent t) (λ y l. fits-at-back t span u y (last-still t (rules t v) y l)) e
+
+  -- and `earliest_resumable` likewise with the least start at which the work can start
+  pub resumable-means : (s : ℕ) → earliestResumable t from span u ≡ at s → Earliest (startsAt t span u) from s
+  unfolding earliestResumable
+  resumable-means s e = let r = least-found (startsAt t span u) from (suc (lastEvent t - from)) s e in record { low = r .low; holds = r .holds; first = r .first }
+
+  pub no-start-means : earliestResumable t from span u ≡ nothing → (x : ℕ) → from ≤ x → startsAt t span u x ≡ false
+  unfolding earliestResumable
+  no-start-means e = none-ever (startsAt t span u) from (lastEvent t) (λ y l. starts-at-back t span u y (last-still t (rules t v) y l)) e
+
+-- without a calendar work runs straight through ..
+straight : (c : Calendar) (s w : ℕ) → c .windows .len ≡ 0 → c .blocks .len ≡ 0 → jointEnd (c ∷ []) s w ≡ at (s + w)
+unfolding workEnd
+straight c s w a b =
+    rw (workEnd, all s) (run-done (joint (c ∷ [])) s w (lastChange (c ∷ []) - s + w) (omega arith) (λ q h l. all q))
+  where
+    all : (p : ℕ) → joint (c ∷ []) p ≡ true
+    all p = joint-one c p ∙ working-is c p (record { window = inl a; blocks = λ k l. absurd (omega arith) })
+
+starts-fits : (t : ResourceTimeline) (work u s : ℕ) → t .calendar .windows .len ≡ 0 → t .calendar .blocks .len ≡ 0 → startsAt t work u s ≡ fitsAt t work u s
+unfolding startsAt freeTo fitsAt
+starts-fits t work u s a b =
+    rw (straight (t .calendar) s work a b, fits-is (t .calendar) s (s + work) (record { window = inl a; blocks = λ k l. absurd (omega arith) })) refl
+
+-- .. and `earliest_resumable` is the same as `earliest_fit`
+pub no-calendar : (t : ResourceTimeline) (from work u : ℕ) → t .calendar .windows .len ≡ 0 → t .calendar .blocks .len ≡ 0 → earliestResumable t from work u ≡ earliestFit t from work u
+unfolding earliestResumable earliestFit
+no-calendar t from work u a b = ap (λ (P : ℕ → Bool). leastFrom P from (suc (lastEvent t - from))) (fun-ext (λ s. starts-fits t work u s a b))
+
+-- bookings counted with repeats
+pub same : Booking → Booking → Bool
+same a b = eqb (a .start) (b .start) && (eqb (a .end) (b .end) && eqb (a .units) (b .units))
+
+same-is : (a b : Booking) → same a b ≡ true → a ≡ b
+unfolding same
+same-is a b h =
+    let w = and-split _ _ h in
+    let v = and-split _ _ (w .1) in
+    let x : a .start ≡ b .start = eqb-true _ _ (w .0) in
+    let y : a .end ≡ b .end = eqb-true _ _ (v .0) in
+    let z : a .units ≡ b .units = eqb-true _ _ (v .1) in
+    λ i. record { start = x i; end = y i; units = z i }
+
+-- how often b is among the bookings
+unfoldable pub times : Booking → List Booking → ℕ
+times b [] = 0
+times b (x ∷ xs) = cond (same b x) 1 0 + times b xs
+
+remove : Booking → List Booking → List Booking
+remove b [] = []
+remove b (x ∷ xs) = cond (same b x) xs (x ∷ remove b xs)
+
+times-remove : (b c : Booking) (xs : List Booking) → times c xs ≤ times c (remove b xs) + cond (same c b) 1 0
+unfolding times remove
+times-remove b c [] = omega arith
+times-remove b c (x ∷ xs) = go (same b x) refl (times-remove b c xs)
+  where
+    go : (q : Bool) → same b x ≡ q → times c xs ≤ times c (remove b xs) + cond (same c b) 1 0
+        → cond (same c x) 1 0 + times c xs ≤ times c (cond q xs (x ∷ remove b xs)) + cond (same c b) 1 0
+    go true e h = rw (same-is b x e) (omega arith)
+    go false e h = omega arith
+
+load-remove : (b : Booking) (xs : List Booking) (s e p : ℕ) → 1 ≤ times b xs → load xs s e p ≡ cond (onAt (b .start) (b .end) s e p) (b .units) 0 + load (remove b xs) s e p
+unfolding times remove load
+load-remove b [] s e p h = absurd (omega arith)
+load-remove b (x ∷ xs) s e p h = go (same b x) refl (load-remove b xs s e p) h
+  where
+    go : (q : Bool) → same b x ≡ q → (1 ≤ times b xs → load xs s e p ≡ cond (onAt (b .start) (b .end) s e p) (b .units) 0 + load (remove b xs) s e p)
+        → 1 ≤ cond q 1 0 + times b xs
+        → cond (onAt (x .start) (x .end) s e p) (x .units) 0 + load xs s e p ≡ cond (onAt (b .start) (b .end) s e p) (b .units) 0 + load (cond q xs (x ∷ remove b xs)) s e p
+    go true g f h = rw (same-is b x g) refl
+    go false g f h = omega (arith, f (omega arith))
+
+same-self : (b : Booking) → same b b ≡ true
+unfolding same
+same-self b = simp (eq-eqb (b .start) (b .start) refl, eq-eqb (b .end) (b .end) refl, eq-eqb (b .units) (b .units) refl)
+
+-- the second list holds each booking of the first, counted with repeats
+abbrev pub Holds : List Booking → List Booking → Type 0
+Holds bs cs = (b : Booking) → times b bs ≤ times b cs
+
+pub load-more : (bs cs : List Booking) (s e p : ℕ) → Holds bs cs → load bs s e p ≤ load cs s e p
+unfolding load times
+load-more [] cs s e p f = omega arith
+load-more (b ∷ bs) cs s e p f =
+    let one : 1 ≤ times b cs = omega (arith, rw (same-self b) at (f b)) in
+    omega (arith, load-remove b cs s e p one, load-more bs (remove b cs) s e p (λ c. omega (arith, f c, times-remove b c cs)))
+
+-- more bookings free nothing ..
+pub free-more : (cap : ℕ) (bs cs : List Booking) (u s e : ℕ) → Holds bs cs → free cap cs u s e ≡ true → free cap bs u s e ≡ true
+free-more cap bs cs u s e f h =
+    let g = free-facts cap cs u s e h in
+    free-yes cap bs u s e (record { few = g .few; fits = λ p w. omega (arith, g .fits p w, load-more bs cs s e p f) })
+
+-- .. and what is free depends on the bookings counted with repeats, never on their order
+pub free-same : (cap : ℕ) (bs cs : List Booking) (u s e : ℕ) → Holds bs cs → Holds cs bs → free cap bs u s e ≡ free cap cs u s e
+free-same cap bs cs u s e f g = go (free cap cs u s e) refl
+  where
+    go : (b : Bool) → free cap cs u s e ≡ b → free cap bs u s e ≡ b
+    go true h = free-more cap bs cs u s e f h
+    go false h = no-way _ (λ t. not-both _ (free-more cap cs bs u s e g t) h)

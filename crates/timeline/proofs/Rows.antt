@@ -1,0 +1,384 @@
+-- The list of bookings against the columns of a diary; a booking put in; a diary that keeps the rules is the one that its bookings make.
+use mathlib.Core.Path.{_≡_, refl, sym, ap, _∙_}
+use mathlib.Core.Bool.{true}
+use mathlib.Core.List.{List, [], _∷_, _++_, map}
+use mathlib.Core.Logic.{_⊎_, ⊎-elim}
+use Prim.Native.Nat.{ℕ, zero, suc, _+_, _-_, _*_, _^_, _≤_, _<_, max}
+use native.Mathlib.Nat.{eq-or-lt-of-le, mul-le-mul}
+use native.Mathlib.Numerals.{add-one}
+use native.Mathlib.Omega.{arith}
+use lib.ListN.{getD, length, take, drop, replicate, length-append, length-replicate, length-map, List·getD-map, List·getD-append, List·getD-eq-default}
+use lib.Seq.{getD-at, ext-getD}
+use borrow.Author.Tests.{le-leb, lt-leb}
+use Rattle.calendar.specs.declared.Calendar.{Calendar}
+use Rattle.calendar.specs.Basics.{lt-or-ge}
+use Rattle.timeline.specs.declared.ResourceTimeline.{ResourceTimeline}
+use Rattle.timeline.specs.Bookings.{Booking, bookingAt, bookingsTo, bookings, total}
+use Rattle.timeline.specs.Valid.{before, valid}
+use Rattle.timeline.specs.Book.{insertBooking, cells, latestEnds, diary}
+use Rattle.timeline.specs.Steps.{Place, Opened, Latest}
+use Rattle.timeline.proofs.Rules.{Rules, CellOf, ruled}
+use Rattle.timeline.proofs.Shift.{before-pos}
+
+abbrev pub none : Booking
+none = record { start = 0; end = 0; units = 0 }
+
+-- length times units
+abbrev pub weight : Booking → ℕ
+weight b = (b .end - b .start) * b .units
+
+pub weight-le : (s e u : ℕ) → e ≤ 2 ^ 42 → u ≤ 10000 → (e - s) * u ≤ 43980465111040000
+weight-le s e u h k =
+    let d : e - s ≤ 2 ^ 42 = omega arith in
+    omega (arith, mul-le-mul d k)
+
+pub total-snoc : (bs : List Booking) (b : Booking) → total (bs ++ (b ∷ [])) ≡ total bs + weight b
+unfolding total
+total-snoc [] b = omega arith
+total-snoc (a ∷ bs) b = rw (total-snoc bs b) (omega arith)
+
+-- a goal by cases on the order of two numbers
+by-order : {G : Type 0} (a b : ℕ) → (a < b → G) → (a ≡ b → G) → (b < a → G) → G
+by-order a b f g h = ⊎-elim f (λ l. ⊎-elim (λ e. g (sym e)) h (eq-or-lt-of-le l)) (lt-or-ge a b)
+
+pub rows-step : (ss es us : List ℕ) (i : ℕ) → bookingsTo ss es us (i + 1) ≡ bookingsTo ss es us i ++ (bookingAt ss es us i ∷ [])
+unfolding bookingsTo
+rows-step ss es us i = rw (add-one i)
+
+pub rows-length : (ss es us : List ℕ) (n : ℕ) → length (bookingsTo ss es us n) ≡ n
+unfolding bookingsTo
+rows-length ss es us zero = refl
+rows-length ss es us (suc n) = simp (length-append, rows-length ss es us n) (omega arith)
+
+pub rows-at : (ss es us : List ℕ) (n k : ℕ) → k < n → getD (bookingsTo ss es us n) k none ≡ bookingAt ss es us k
+unfolding bookingsTo
+rows-at ss es us zero k h = absurd (omega arith)
+rows-at ss es us (suc n) k h =
+    ⊎-elim
+    (λ (e : k ≡ n). rw e (getD-at (bookingsTo ss es us n) (bookingAt ss es us n) [] none n (rows-length ss es us n)))
+    (λ (l : k < n). List·getD-append (bookingsTo ss es us n) _ none k (rw (rows-length ss es us n) l) ∙ rows-at ss es us n k l)
+    (eq-or-lt-of-le (omega arith))
+
+abbrev rowAt : ResourceTimeline → ℕ → Booking
+rowAt t i = bookingAt (t .starts) (t .ends) (t .units) i
+
+-- how many bookings a diary has, and which stands at an index
+pub count : (t : ResourceTimeline) → length (bookings t) ≡ t .len
+count t = rows-length (t .starts) (t .ends) (t .units) (t .len)
+
+pub booking-at : (t : ResourceTimeline) (k : ℕ) → k < t .len → getD (bookings t) k none ≡ rowAt t k
+booking-at t k h = rows-at (t .starts) (t .ends) (t .units) (t .len) k h
+
+-- b put in at index at
+abbrev pub putAt : ℕ → Booking → List Booking → List Booking
+putAt at b bs = take at bs ++ (b ∷ drop at bs)
+
+pub insert-at : (b : Booking) (bs : List Booking) (at : ℕ) → at ≤ length bs
+    → ((k : ℕ) → k < at → getD bs k none .start ≤ b .start)
+    → (at < length bs → b .start < getD bs at none .start)
+    → insertBooking b bs ≡ putAt at b bs
+unfolding insertBooking
+insert-at b [] zero h f g = refl
+insert-at b [] (suc at) h f g = absurd (omega arith)
+insert-at b (x ∷ xs) zero h f g = rw (lt-leb (x .start) (b .start) (g (omega arith))) refl
+insert-at b (x ∷ xs) (suc at) h f g =
+    rw (le-leb (x .start) (b .start) (f 0 (omega arith)))
+    (ap (λ l. x ∷ l) (insert-at b xs at (omega arith) (λ k l. f (suc k) (omega arith)) (λ l. g (omega arith))))
+
+put-low : (at : ℕ) (b : Booking) (bs : List Booking) → at ≤ length bs → (k : ℕ) → k < at → getD (putAt at b bs) k none ≡ getD bs k none
+put-low zero b bs h k l = absurd (omega arith)
+put-low (suc at) b [] h k l = absurd (omega arith)
+put-low (suc at) b (x ∷ xs) h zero l = refl
+put-low (suc at) b (x ∷ xs) h (suc k) l = put-low at b xs (omega arith) k (omega arith)
+
+put-here : (at : ℕ) (b : Booking) (bs : List Booking) → at ≤ length bs → getD (putAt at b bs) at none ≡ b
+put-here zero b bs h = refl
+put-here (suc at) b [] h = absurd (omega arith)
+put-here (suc at) b (x ∷ xs) h = put-here at b xs (omega arith)
+
+put-high : (at : ℕ) (b : Booking) (bs : List Booking) → at ≤ length bs → (k : ℕ) → at ≤ k
+    → getD (putAt at b bs) (suc k) none ≡ getD bs k none
+put-high zero b bs h k l = refl
+put-high (suc at) b [] h k l = absurd (omega arith)
+put-high (suc at) b (x ∷ xs) h zero l = absurd (omega arith)
+put-high (suc at) b (x ∷ xs) h (suc k) l = put-high at b xs (omega arith) k (omega arith)
+
+put-length : (at : ℕ) (b : Booking) (bs : List Booking) → at ≤ length bs → length (putAt at b bs) ≡ suc (length bs)
+put-length zero b bs h = refl
+put-length (suc at) b [] h = absurd (omega arith)
+put-length (suc at) b (x ∷ xs) h = ap suc (put-length at b xs (omega arith))
+
+total-put : (at : ℕ) (b : Booking) (bs : List Booking) → total (putAt at b bs) ≡ total bs + weight b
+unfolding total
+total-put zero b bs = omega arith
+total-put (suc at) b [] = omega arith
+total-put (suc at) b (x ∷ xs) = rw (total-put at b xs) (omega arith)
+
+-- what the code makes of a diary t for a booking of u units from s to e, at index at
+pub record Put (t r : ResourceTimeline) (s e u at : ℕ) : Type 0 where
+  pub capacity : r .capacity ≡ t .capacity
+  pub calendar : r .calendar ≡ t .calendar
+  pub place : Place (t .starts) (t .len) s at
+  pub starts : Opened (t .starts) at (t .len) s (r .starts)
+  pub ends : Opened (t .ends) at (t .len) e (r .ends)
+  pub units : Opened (t .units) at (t .len) u (r .units)
+  pub latest : Latest (t .latest) (r .ends) at (t .len + 1) (r .latest)
+  pub len : r .len ≡ t .len + 1
+  pub booked : r .booked ≡ t .booked + (e - s) * u
+
+module _ (t r : ResourceTimeline) (s e u at : ℕ) (p : Put t r s e u at) where
+  abbrev b : Booking
+  b = record { start = s; end = e; units = u }
+
+  row-low : (k : ℕ) → k < at → rowAt r k ≡ rowAt t k
+  row-low k h = cc (p .starts .low k h, p .ends .low k h, p .units .low k h)
+
+  row-here : rowAt r at ≡ b
+  row-here = cc (p .starts .here, p .ends .here, p .units .here)
+
+  row-high : (k : ℕ) → at ≤ k → k < t .len → rowAt r (suc k) ≡ rowAt t k
+  row-high k h l =
+      let d : suc k - 1 ≡ k = omega arith in
+      let x = rw d at (p .starts .high (suc k) (omega arith) (omega arith)) in
+      let y = rw d at (p .ends .high (suc k) (omega arith) (omega arith)) in
+      let z = rw d at (p .units .high (suc k) (omega arith) (omega arith)) in
+      cc (x, y, z)
+
+  bookings-put : bookings r ≡ putAt at b (bookings t)
+  bookings-put =
+      ext-getD none (bookings r) (putAt at b (bookings t))
+      (count r ∙ (omega (arith, p .len, put-length at b (bookings t) (within), count t)))
+      (λ k h. each k (rw (count r) at h))
+    where
+      within : at ≤ length (bookings t)
+      within = rw (count t) (p .place .in-range)
+
+      each : (k : ℕ) → k < r .len → getD (bookings r) k none ≡ getD (putAt at b (bookings t)) k none
+      each k h =
+          by-order k at
+          (λ l. booking-at r k h ∙ row-low k l ∙ sym (booking-at t k (omega (arith, p .place .in-range))) ∙ sym (put-low at b (bookings t) within k l))
+          (λ q. rw q (booking-at r at (rw q at h) ∙ row-here ∙ sym (put-here at b (bookings t) within)))
+          (λ l.
+          let j = k - 1 in
+          let q : k ≡ suc j = omega arith in
+          let a : at ≤ j = omega arith in
+          let z : j < t .len = omega (arith, p .len) in
+          rw q (booking-at r (suc j) (rw q at h) ∙ row-high j a z ∙ sym (booking-at t j z) ∙ sym (put-high at b (bookings t) within j a)))
+
+  pub bookings-are : bookings r ≡ insertBooking b (bookings t)
+  bookings-are =
+      bookings-put
+      ∙ sym
+      (insert-at b (bookings t) at
+      (rw (count t) (p .place .in-range))
+      (λ k l. rw (booking-at t k (omega (arith, p .place .in-range))) (p .place .behind k l))
+      (λ l. rw (booking-at t at (rw (count t) at l)) (p .place .ahead (rw (count t) at l))))
+
+  before-low : (xs ys : List ℕ) → ((k : ℕ) → k < at → getD ys k 0 ≡ getD xs k 0) → (k : ℕ) → k ≤ at → before ys k ≡ before xs k
+  unfolding before
+  before-low xs ys f zero h = refl
+  before-low xs ys f (suc k) h = f k (omega arith)
+
+  module _ (rs : Rules t) (order : s < e) (range : e ≤ 2 ^ 42) (some : 1 ≤ u) (few : u ≤ 10000) (room : t .len < 64) where
+    cell-low : (i : ℕ) → i < at → CellOf r i
+    cell-low i h =
+        let f = rs .filled i (omega (arith, p .place .in-range)) in
+        let a = p .starts .low i h in
+        let b′ = p .ends .low i h in
+        let c′ = p .units .low i h in
+        let d = p .latest .low i h in
+        let x = before-low (t .starts) (r .starts) (p .starts .low) i (omega arith) in
+        let y = before-low (t .latest) (r .latest) (p .latest .low) i (omega arith) in
+        rw (a, b′, c′, d, x, y) f
+
+    prev-below : before (r .starts) at ≤ s
+    unfolding before
+    prev-below = rw (before-low (t .starts) (r .starts) (p .starts .low) at (omega arith)) (go at (p .place .behind))
+      where
+        go : (j : ℕ) → ((k : ℕ) → k < j → getD (t .starts) k 0 ≤ s) → before (t .starts) j ≤ s
+        go zero f = omega arith
+        go (suc j) f = f j (omega arith)
+
+    cell-here : CellOf r at
+    cell-here = record {
+      order = omega (arith, p .starts .here, p .ends .here, order);
+      range = omega (arith, p .ends .here, range);
+      some = omega (arith, p .units .here, some);
+      few = omega (arith, p .units .here, few);
+      sorted = omega (arith, p .starts .here, prev-below);
+      latest = p .latest .run at (omega arith) (omega (arith, p .place .in-range));
+    }
+
+    -- the start after a moved one
+    next-above : (i : ℕ) → at ≤ i → i < t .len → getD (r .starts) i 0 ≤ getD (t .starts) i 0
+    next-above i h l =
+        ⊎-elim
+        (λ (q : at ≡ i). rw (← q) (omega (arith, p .starts .here, p .place .ahead (omega arith))))
+        (λ (g : at < i). omega (arith, p .starts .high i g (omega arith), rs .filled i l .sorted, before-pos (t .starts) i (omega arith)))
+        (eq-or-lt-of-le h)
+
+    cell-high : (i : ℕ) → at ≤ i → i < t .len → CellOf r (suc i)
+    unfolding before
+    cell-high i h l =
+        let f = rs .filled i l in
+        let w = row-high i h l in
+        let x : getD (r .starts) (suc i) 0 ≡ getD (t .starts) i 0 = ap (λ (q : Booking). q .start) w in
+        let y : getD (r .ends) (suc i) 0 ≡ getD (t .ends) i 0 = ap (λ (q : Booking). q .end) w in
+        let z : getD (r .units) (suc i) 0 ≡ getD (t .units) i 0 = ap (λ (q : Booking). q .units) w in
+        record {
+          order = omega (arith, f .order);
+          range = omega (arith, f .range);
+          some = omega (arith, f .some);
+          few = omega (arith, f .few);
+          sorted = omega (arith, next-above i h l);
+          latest = p .latest .run (suc i) (omega arith) (omega arith);
+        }
+
+    pub put-rules : Rules r
+    put-rules = record {
+      calendar = rw (p .calendar) (rs .calendar);
+      some = rw (p .capacity) (rs .some);
+      few = rw (p .capacity) (rs .few);
+      room = omega (arith, p .len);
+      filled = λ i h.
+          by-order i at (cell-low i) (λ q. rw q cell-here)
+          (λ l.
+          let q : i ≡ suc (i - 1) = omega arith in
+          rw q (cell-high (i - 1) (omega arith) (omega (arith, p .len))));
+      empty = λ i h l.
+          let f = rs .empty i (omega (arith, p .len)) l in
+          let g : t .len < i = omega (arith, p .len) in
+          record {
+            starts0 = p .starts .rest i g ∙ f .starts0;
+            ends0 = p .ends .rest i g ∙ f .ends0;
+            units0 = p .units .rest i g ∙ f .units0;
+            latest0 = p .latest .rest i (omega arith) ∙ f .latest0;
+          };
+      sum = p .booked ∙ rw (rs .sum) (sym (ap total bookings-put ∙ total-put at b (bookings t)));
+    }
+
+-- a diary that keeps the rules is the one that its bookings make
+
+pad-zero : (n k : ℕ) → getD {A = ℕ} (replicate n 0) k 0 ≡ 0
+pad-zero zero k = refl
+pad-zero (suc n) zero = refl
+pad-zero (suc n) (suc k) = pad-zero n k
+
+pad-at : (xs : List ℕ) (n k : ℕ) → getD (xs ++ replicate n 0) k 0 ≡ getD xs k 0
+pad-at [] n k = pad-zero n k
+pad-at (x ∷ xs) n zero = refl
+pad-at (x ∷ xs) n (suc k) = pad-at xs n k
+
+cells-length : (xs : List ℕ) → length xs ≤ 64 → length (cells xs) ≡ 64
+cells-length xs h = simp (length-append, length-replicate) (omega arith)
+
+-- a column of 64 cells is what a list of n numbers, with zeros behind them, makes
+column : (xs ys : List ℕ) (n : ℕ) → length xs ≡ 64 → n ≤ 64 → length ys ≡ n
+    → ((k : ℕ) → k < n → getD xs k 0 ≡ getD ys k 0)
+    → ((k : ℕ) → n ≤ k → k < 64 → getD xs k 0 ≡ 0)
+    → xs ≡ cells ys
+column xs ys n l m q f g =
+    ext-getD 0 xs (cells ys) (l ∙ sym (cells-length ys (omega arith)))
+    (λ k h. ⊎-elim
+    (λ (a : k < n). f k a ∙ sym (pad-at ys (64 - length ys) k))
+    (λ (a : n ≤ k). g k a (omega arith) ∙ sym (List·getD-eq-default ys 0 (omega arith)) ∙ sym (pad-at ys (64 - length ys) k))
+    (lt-or-ge k n))
+
+latest-length : (m : ℕ) (bs : List Booking) → length (latestEnds m bs) ≡ length bs
+unfolding latestEnds
+latest-length m [] = refl
+latest-length m (b ∷ bs) = ap suc (latest-length _ bs)
+
+latest-first : (m : ℕ) (bs : List Booking) → 0 < length bs → getD (latestEnds m bs) 0 0 ≡ max m (getD bs 0 none .end)
+unfolding latestEnds
+latest-first m [] h = absurd (omega arith)
+latest-first m (b ∷ bs) h = refl
+
+latest-next : (m : ℕ) (bs : List Booking) (k : ℕ) → suc k < length bs
+    → getD (latestEnds m bs) (suc k) 0 ≡ max (getD (latestEnds m bs) k 0) (getD bs (suc k) none .end)
+unfolding latestEnds
+latest-next m [] k h = absurd (omega arith)
+latest-next m (b ∷ bs) zero h = latest-first (max m (b .end)) bs (omega arith)
+latest-next m (b ∷ bs) (suc k) h = latest-next (max m (b .end)) bs k (omega arith)
+
+pub record Long (t : ResourceTimeline) : Type 0 where
+  pub starts : length (t .starts) ≡ 64
+  pub ends : length (t .ends) ≡ 64
+  pub units : length (t .units) ≡ 64
+  pub latest : length (t .latest) ≡ 64
+
+latest-is : (t : ResourceTimeline) → Rules t → (k : ℕ) → k < t .len → getD (t .latest) k 0 ≡ getD (latestEnds 0 (bookings t)) k 0
+unfolding before
+latest-is t rs zero h =
+    rs .filled 0 h .latest ∙ sym (latest-first 0 (bookings t) (rw (count t) h) ∙ rw (booking-at t 0 h) refl)
+latest-is t rs (suc k) h =
+    rs .filled (suc k) h .latest
+    ∙ sym
+    (latest-next 0 (bookings t) k (rw (count t) h)
+    ∙ rw (booking-at t (suc k) h, ← latest-is t rs k (omega arith)) refl)
+
+pub canon : (t : ResourceTimeline) → Long t → Rules t → t ≡ diary (t .capacity) (t .calendar) (bookings t)
+unfolding diary
+canon t g rs = λ i. record {
+  capacity = t .capacity;
+  calendar = t .calendar;
+  starts = a i;
+  ends = b′ i;
+  units = c′ i;
+  latest = d i;
+  len = sym (count t) i;
+  booked = rs .sum i;
+}
+  where
+    field-at : (f : Booking → ℕ) → f none ≡ 0 → (k : ℕ) → k < t .len → getD (map f (bookings t)) k 0 ≡ f (rowAt t k)
+    field-at f z k h = ap (λ (q : ℕ). getD (map f (bookings t)) k q) (sym z) ∙ List·getD-map f (bookings t) k none ∙ ap f (booking-at t k h)
+
+    a : t .starts ≡ cells (map (λ q. q .start) (bookings t))
+    a =
+        column (t .starts) (map (λ q. q .start) (bookings t)) (t .len) (g .starts) (rs .room) (length-map (bookings t) (λ q. q .start) ∙ count t)
+        (λ k h. sym (field-at (λ q. q .start) refl k h))
+        (λ k h l. rs .empty k h l .starts0)
+
+    b′ : t .ends ≡ cells (map (λ q. q .end) (bookings t))
+    b′ =
+        column (t .ends) (map (λ q. q .end) (bookings t)) (t .len) (g .ends) (rs .room) (length-map (bookings t) (λ q. q .end) ∙ count t)
+        (λ k h. sym (field-at (λ q. q .end) refl k h))
+        (λ k h l. rs .empty k h l .ends0)
+
+    c′ : t .units ≡ cells (map (λ q. q .units) (bookings t))
+    c′ =
+        column (t .units) (map (λ q. q .units) (bookings t)) (t .len) (g .units) (rs .room) (length-map (bookings t) (λ q. q .units) ∙ count t)
+        (λ k h. sym (field-at (λ q. q .units) refl k h))
+        (λ k h l. rs .empty k h l .units0)
+
+    d : t .latest ≡ cells (latestEnds 0 (bookings t))
+    d =
+        column (t .latest) (latestEnds 0 (bookings t)) (t .len) (g .latest) (rs .room) (latest-length 0 (bookings t) ∙ count t)
+        (latest-is t rs)
+        (λ k h l. rs .empty k h l .latest0)
+
+-- the booked total is small
+pub total-le : (t : ResourceTimeline) → Rules t → (n : ℕ) → n ≤ t .len → total (bookingsTo (t .starts) (t .ends) (t .units) n) ≤ n * 43980465111040000
+unfolding bookingsTo total
+total-le t rs zero h = omega arith
+total-le t rs (suc n) h =
+    let f = rs .filled n h in
+    rw (total-snoc (bookingsTo (t .starts) (t .ends) (t .units) n) (rowAt t n))
+    (omega (arith, total-le t rs n (omega arith), weight-le (getD (t .starts) n 0) (getD (t .ends) n 0) (getD (t .units) n 0) (f .range) (f .few)))
+
+pub put-is : (t r : ResourceTimeline) (s e u at : ℕ) → Put t r s e u at → Long r → Rules t → (s < e) × (e ≤ 2 ^ 42) × (1 ≤ u) × (u ≤ 10000) → t .len < 64
+    → (r ≡ diary (t .capacity) (t .calendar) (insertBooking (record { start = s; end = e; units = u }) (bookings t))) × (valid r ≡ true)
+put-is t r s e u at p g rs h l =
+    let q = put-rules t r s e u at p rs (h .0) (h .1) (h .2) (h .3) l in
+    (canon r g q ∙ rw (bookings-are t r s e u at p, p .capacity, p .calendar) refl, ruled r q)
+
+abbrev zeros : List ℕ
+zeros = replicate 64 0
+
+-- an empty diary
+pub empty-is : (capacity : ℕ) (c : Calendar)
+    → _≡_ {A = ResourceTimeline}
+    (record { capacity = capacity; calendar = c; starts = zeros; ends = zeros; units = zeros; latest = zeros; len = 0; booked = 0 })
+    (diary capacity c [])
+unfolding diary latestEnds total
+empty-is capacity c = refl

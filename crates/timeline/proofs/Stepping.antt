@@ -1,0 +1,151 @@
+-- A span or work that fits one millisecond later fits here too, unless a window starts, a block ends or a booking ends there.
+use mathlib.Core.Path.{_≡_, refl, sym, ap, _∙_}
+use mathlib.Core.Bool.{true}
+use mathlib.Core.List.{List, [], _∷_}
+use mathlib.Core.Logic.{_⊎_, inl, inr, ⊎-elim}
+use Prim.Native.Nat.{ℕ, zero, suc, _+_, _-_, _^_, _≤_, _<_}
+use native.Mathlib.Nat.{eq-or-lt-of-le}
+use native.Mathlib.Omega.{arith}
+use lib.ListN.{getD, length}
+use Rattle.calendar.specs.declared.TimeWindows.{TimeWindows}
+use Rattle.calendar.specs.declared.Calendar.{Calendar}
+use Rattle.calendar.specs.Basics.{and-split, and-join, and-true, not-both}
+use Rattle.calendar.specs.Search.{Found, nothing, at}
+use Rattle.calendar.specs.Spans.{spansFrom}
+use Rattle.calendar.specs.Fits.{fits}
+use Rattle.calendar.specs.Work.{working, joint, jointEnd, latest, lastChange}
+use Rattle.calendar.specs.Meaning.{Quiet, fits-back, working-back, joint-changeless, joint-end-found, work-end-back}
+use Rattle.calendar.proofs.Rules.{filled, windows-right, blocks-right}
+use Rattle.timeline.specs.declared.ResourceTimeline.{ResourceTimeline}
+use Rattle.timeline.specs.Bookings.{Booking, bookings, latestEnd}
+use Rattle.timeline.specs.Free.{load, free}
+use Rattle.timeline.specs.Earliest.{freeOn, fitsAt, freeTo, startsAt, lastEvent}
+use Rattle.timeline.specs.Steps.{Next}
+use Rattle.timeline.proofs.Rules.{Rules}
+use Rattle.timeline.proofs.Rows.{none, count, booking-at}
+use Rattle.timeline.proofs.Loading.{load-le, Free, free-yes, free-facts}
+
+-- free one later and up to a later end, and no booking ends there: free already
+pub free-back : (cap : ℕ) (bs : List Booking) (u x e e′ : ℕ) → e ≤ e′ → ((k : ℕ) → k < length bs → getD bs k none .end ≡ suc x → ⊥) → free cap bs u (suc x) e′ ≡ true → free cap bs u x e ≡ true
+free-back cap bs u x e e′ m f h =
+    let g = free-facts cap bs u (suc x) e′ h in
+    free-yes cap bs u x e
+    (record { few = g .few; fits = λ p w. ⊎-elim (λ (q : p ≡ x). rw q (here g)) (λ (i : (x ≤ p) × (p < e)). inside g p (i .0) (i .1)) w })
+  where
+    here : Free cap bs u (suc x) e′ → load bs x e x + u ≤ cap
+    here g =
+        let a = load-le bs x e x (suc x) e′ (suc x)
+        (λ k l o.
+        let z : getD bs k none .end ≡ suc x → ⊥ = f k l in
+        record { starts = omega (arith, o .starts); ends = omega (arith, o .ends, z); from = omega (arith, o .from); to = omega (arith, o .to, z) }) in
+        let b = g .fits (suc x) (inl refl) in
+        omega arith
+
+    inside : Free cap bs u (suc x) e′ → (p : ℕ) → x ≤ p → p < e → load bs x e p + u ≤ cap
+    inside g p l r =
+        ⊎-elim
+        (λ (q : x ≡ p). rw (← q) (here g))
+        (λ (q : x < p).
+        let a = load-le bs x e p (suc x) e′ p
+        (λ k i o. record { starts = omega (arith, o .starts); ends = omega (arith, o .to); from = o .from; to = o .to }) in
+        let b = g .fits p (inr (q, omega arith)) in
+        omega arith)
+        (eq-or-lt-of-le l)
+
+-- nothing happens at x: no window starts, no block ends, no booking ends
+pub record Still (t : ResourceTimeline) (x : ℕ) : Type 0 where
+  pub quiet : Quiet (t .calendar) x
+  pub ends : (k : ℕ) → k < t .len → getD (t .ends) k 0 ≡ x → ⊥
+
+ends-of : (t : ResourceTimeline) (x : ℕ) → Still t x → (k : ℕ) → k < length (bookings t) → getD (bookings t) k none .end ≡ x → ⊥
+ends-of t x s k l e =
+    let h : k < t .len = rw (count t) at l in
+    s .ends k h (sym (ap (λ (b : Booking). b .end) (booking-at t k h)) ∙ e)
+
+pub fits-at-back : (t : ResourceTimeline) (span u x : ℕ) → Still t (suc x) → fitsAt t span u (suc x) ≡ true → fitsAt t span u x ≡ true
+unfolding fitsAt
+fits-at-back t span u x s h =
+    let w = and-split (fits (t .calendar) (suc x) (suc x + span)) (freeOn t u (suc x) (suc x + span)) h in
+    and-join _ _ (fits-back (t .calendar) x span (s .quiet) (w .0)) (free-back (t .capacity) (bookings t) u x (x + span) (suc x + span) (omega arith) (ends-of t (suc x) s) (w .1))
+
+pub joint-one : (c : Calendar) (p : ℕ) → joint (c ∷ []) p ≡ working c p
+unfolding joint
+joint-one c p = and-true (working c p)
+
+pub starts-at-back : (t : ResourceTimeline) (work u x : ℕ) → Still t (suc x) → startsAt t work u (suc x) ≡ true → startsAt t work u x ≡ true
+unfolding startsAt freeTo
+starts-at-back t work u x s h = go (jointEnd (t .calendar ∷ []) (suc x) work) refl h
+  where
+    go : (f : Found) → jointEnd (t .calendar ∷ []) (suc x) work ≡ f → freeTo t u (suc x) f ≡ true → freeTo t u x (jointEnd (t .calendar ∷ []) x work) ≡ true
+    go nothing e g = absurd (not-both _ g refl)
+    go (at d) e g =
+        let on = joint-end-found (t .calendar ∷ []) (suc x) work d e .0 in
+        let here = joint-one (t .calendar) x ∙ working-back (t .calendar) x (s .quiet) (sym (joint-one (t .calendar) (suc x)) ∙ on) in
+        let r = work-end-back (lastChange (t .calendar ∷ [])) (joint (t .calendar ∷ [])) x work d (joint-changeless (t .calendar ∷ [])) here e in
+        rw (r .1) (free-back (t .capacity) (bookings t) u x (r .0) d (r .2) (ends-of t (suc x) s) g)
+
+-- between an instant and the next candidate nothing happens
+pub next-still : (t : ResourceTimeline) (x r y : ℕ) → Next t x r → x ≤ y → suc y < r → Still t (suc y)
+next-still t x r y n a b = record {
+  quiet = record {
+    windows = λ k l e. omega (arith, n .windows k l (omega arith));
+    blocks = λ k l e. omega (arith, n .blocks k l (omega arith));
+  };
+  ends = λ k l e. omega (arith, n .ends k l (omega arith));
+}
+
+-- the latest end of a list of spans is at least each of them, and at most what they all are
+end-latest : (l : TimeWindows) (i n k : ℕ) → k < n → getD (l .ends) (i + k) 0 ≤ latest (spansFrom l i n)
+unfolding latest spansFrom
+end-latest l i zero k h = absurd (omega arith)
+end-latest l i (suc n) zero h =
+    let e : i + 0 ≡ i = omega arith in
+    rw e (omega arith)
+end-latest l i (suc n) (suc k) h =
+    let e : i + suc k ≡ suc i + k = omega arith in
+    rw e (omega (arith, end-latest l (suc i) n k (omega arith)))
+
+latest-most : (l : TimeWindows) (m i n : ℕ) → ((k : ℕ) → i ≤ k → k < i + n → getD (l .ends) k 0 ≤ m) → latest (spansFrom l i n) ≤ m
+unfolding latest spansFrom
+latest-most l m i zero f = omega arith
+latest-most l m i (suc n) f = omega (arith, f i (omega arith) (omega arith), latest-most l m (suc i) n (λ k a b. f k (omega arith) (omega arith)))
+
+end-last : (bs : List Booking) (k : ℕ) → k < length bs → getD bs k none .end ≤ latestEnd bs
+unfolding latestEnd
+end-last [] k l = absurd (omega arith)
+end-last (b ∷ bs) zero l = omega arith
+end-last (b ∷ bs) (suc k) l = omega (arith, end-last bs k (omega arith))
+
+last-most : (bs : List Booking) (m : ℕ) → ((k : ℕ) → k < length bs → getD bs k none .end ≤ m) → latestEnd bs ≤ m
+unfolding latestEnd
+last-most [] m f = omega arith
+last-most (b ∷ bs) m f = omega (arith, f 0 (omega arith), last-most bs m (λ k l. f (suc k) (omega arith)))
+
+pub booked-end : (t : ResourceTimeline) (k : ℕ) → k < t .len → getD (t .ends) k 0 ≤ latestEnd (bookings t)
+booked-end t k h = rw (ap (λ (b : Booking). b .end) (booking-at t k h)) at (end-last (bookings t) k (rw (count t) h))
+
+-- from the last event on nothing happens
+pub last-still : (t : ResourceTimeline) → Rules t → (y : ℕ) → lastEvent t ≤ y → Still t (suc y)
+unfolding lastEvent lastChange
+last-still t r y h = record {
+  quiet = record {
+    windows = λ k l e.
+        let f = filled (t .calendar .windows) (windows-right _ (r .calendar)) k l in
+        let z : 0 + k ≡ k = omega arith in
+        let g = rw z at (end-latest (t .calendar .windows) 0 (t .calendar .windows .len) k l) in
+        omega arith;
+    blocks = λ k l e.
+        let z : 0 + k ≡ k = omega arith in
+        let g = rw z at (end-latest (t .calendar .blocks) 0 (t .calendar .blocks .len) k l) in
+        omega arith;
+  };
+  ends = λ k l e. omega (arith, booked-end t k l);
+}
+
+pub last-range : (t : ResourceTimeline) → Rules t → lastEvent t ≤ 2 ^ 42
+unfolding lastEvent lastChange
+last-range t r =
+    let a = latest-most (t .calendar .windows) (2 ^ 42) 0 (t .calendar .windows .len) (λ k b c. filled (t .calendar .windows) (windows-right _ (r .calendar)) k (omega arith) .1) in
+    let b = latest-most (t .calendar .blocks) (2 ^ 42) 0 (t .calendar .blocks .len) (λ k b c. filled (t .calendar .blocks) (blocks-right _ (r .calendar)) k (omega arith) .1) in
+    let d = last-most (bookings t) (2 ^ 42) (λ k l. let h : k < t .len = rw (count t) at l in rw (ap (λ (x : Booking). x .end) (booking-at t k h)) (r .filled k h .range)) in
+    omega arith

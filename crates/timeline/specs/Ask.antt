@@ -1,0 +1,55 @@
+-- The replies of 'Asking a diary'.
+use Prim.Native.Nat.{ℕ, zero, suc, _+_, _^_}
+use mathlib.Core.Bool.{not, cond, _||_}
+use mathlib.Core.List.{[], _∷_}
+use lib.Dec.{ltb}
+use Rattle.calendar.specs.Search.{Found, nothing, at}
+use Rattle.calendar.specs.Work.{jointEnd}
+use Rattle.timeline.specs.declared.ResourceTimeline.{ResourceTimeline}
+use Rattle.timeline.specs.declared.Answer.{Answer}
+use Rattle.timeline.specs.declared.Answer.the-variants.{Fit, None, Refused}
+use Rattle.timeline.specs.Valid.{valid}
+use Rattle.timeline.specs.Earliest.{earliestFit, earliestResumable}
+
+-- what a diary replies: a start with its end, none, or a refusal's number
+pub data Reply : Type 0 where
+  fit : ℕ → ℕ → Reply
+  none : Reply
+  refused : ℕ → Reply
+
+unfoldable pub replyOf : Answer → Reply
+replyOf (Fit s e) = fit s e
+replyOf None = none
+replyOf (Refused n) = refused n
+
+-- a start, with the span behind it
+unfoldable pub unbroken : ℕ → Found → Reply
+unbroken span nothing = none
+unbroken span (at s) = fit s (s + span)
+
+-- a start, with the work's end
+unfoldable pub ended : ℕ → Found → Reply
+ended s nothing = none
+ended s (at e) = fit s e
+
+unfoldable pub resumed : ResourceTimeline → ℕ → Found → Reply
+resumed t work nothing = none
+resumed t work (at s) = ended s (jointEnd (t .calendar ∷ []) s work)
+
+-- 1 from outside 0 to 2^43 or span outside 0 to 2^53; 3 units outside 1 to 10,000; 0 for none
+unfoldable pub askRefusal : ℕ → ℕ → ℕ → ℕ
+askRefusal from span u = cond (ltb (2 ^ 43) from || ltb (2 ^ 53) span) 1 (cond (ltb u 1 || ltb 10000 u) 3 0)
+
+unfoldable pub refusedOr : ℕ → Reply → Reply
+refusedOr zero reply = reply
+refusedOr (suc n) reply = refused (suc n)
+
+-- 15 before all else; units above the capacity is 'none', for they are never free
+unfoldable pub asked : ResourceTimeline → ℕ → ℕ → ℕ → Reply → Reply
+asked t from span u reply = cond (not (valid t)) (refused 15) (refusedOr (askRefusal from span u) reply)
+
+abbrev pub fitReply : ResourceTimeline → ℕ → ℕ → ℕ → Reply
+fitReply t from span u = asked t from span u (unbroken span (earliestFit t from span u))
+
+abbrev pub resumableReply : ResourceTimeline → ℕ → ℕ → ℕ → Reply
+resumableReply t from work u = asked t from work u (resumed t work (earliestResumable t from work u))

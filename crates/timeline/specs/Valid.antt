@@ -1,0 +1,47 @@
+-- When a diary keeps the rules: its calendar's, its length, each booking's range, the order by start, the running latest ends, the
+-- booked total, and 0 in every cell past the length.
+use Prim.Native.Nat.{ℕ, zero, suc, _-_, _^_, max}
+use mathlib.Core.Bool.{Bool, true, _&&_}
+use mathlib.Core.List.{List}
+use lib.ListN.{getD}
+use lib.Dec.{leb, ltb, eqb}
+use Rattle.timeline.specs.declared.ResourceTimeline.{ResourceTimeline}
+use Rattle.timeline.specs.Bookings.{bookings, total}
+use Rattle.calendar.specs.Valid as calendar
+
+-- the cell before cell i, 0 before the first
+unfoldable pub before : List ℕ → ℕ → ℕ
+before xs zero = 0
+before xs (suc i) = getD xs i 0
+
+-- a filled cell: start, end, units and latest end, after a cell with start ps and latest end pl
+unfoldable pub cellRight : ℕ → ℕ → ℕ → ℕ → ℕ → ℕ → Bool
+cellRight s e u l ps pl =
+    ltb s e && (leb e (2 ^ 42) && (leb 1 u && (leb u 10000 && (leb ps s && eqb l (max pl e)))))
+
+-- an empty cell
+unfoldable pub cellEmpty : ℕ → ℕ → ℕ → ℕ → Bool
+cellEmpty s e u l = eqb s 0 && (eqb e 0 && (eqb u 0 && eqb l 0))
+
+abbrev pub filledAt : ResourceTimeline → ℕ → Bool
+filledAt t i =
+    cellRight (getD (t .starts) i 0) (getD (t .ends) i 0) (getD (t .units) i 0) (getD (t .latest) i 0)
+    (before (t .starts) i)
+    (before (t .latest) i)
+
+abbrev pub emptyAt : ResourceTimeline → ℕ → Bool
+emptyAt t i = cellEmpty (getD (t .starts) i 0) (getD (t .ends) i 0) (getD (t .units) i 0) (getD (t .latest) i 0)
+
+-- the k cells from cell i on
+unfoldable pub filledFrom : ResourceTimeline → ℕ → ℕ → Bool
+filledFrom t i zero = true
+filledFrom t i (suc k) = filledAt t i && filledFrom t (suc i) k
+
+unfoldable pub emptyFrom : ResourceTimeline → ℕ → ℕ → Bool
+emptyFrom t i zero = true
+emptyFrom t i (suc k) = emptyAt t i && emptyFrom t (suc i) k
+
+unfoldable pub valid : ResourceTimeline → Bool
+valid t =
+    calendar.valid (t .calendar) && (leb 1 (t .capacity) && (ltb (t .capacity) (2 ^ 31) && (leb (t .len) 64
+    && (filledFrom t 0 (t .len) && (emptyFrom t (t .len) (64 - t .len) && eqb (t .booked) (total (bookings t)))))))

@@ -1,0 +1,338 @@
+// A diary: bookings by start with their running latest ends, a calendar and a capacity (scheduler/timeline.rs; 01, 'Diary' and the
+// replies of 'Booking' and 'Asking a diary').
+use calendar::Calendar;
+use joint::WorkEnd;
+
+pub mod core;
+mod insert;
+
+ghost use mathlib.Core.Path.{_≡_};
+ghost use mathlib.Core.Bool.{true};
+ghost use Prim.Native.Nat.{_-_, _^_, _≤_, _<_};
+ghost use Rattle.calendar.specs.Add.{addWindow, addBlock};
+ghost use Rattle.timeline.specs.Bookings.{bookings, total, latestEnd};
+ghost use Rattle.timeline.specs.Valid.{cellRight, cellEmpty, filledFrom, emptyFrom, valid};
+ghost use Rattle.timeline.specs.Book.{capacityOf, newDiary, bookReply, calendarReply};
+ghost use Rattle.timeline.specs.Ask.{askRefusal, replyOf, fitReply, resumableReply};
+
+// 01: diary. The booking in cell i is starts[i], ends[i], units[i], and latest[i] the latest end of cells 0 to i (the Rust's
+// latest_end_to). Cells past `len` are 0. No windows and no blocks: a diary without a calendar.
+pub struct ResourceTimeline {
+    pub capacity: u32,
+    pub calendar: Calendar,
+    pub starts: [u64; 64],
+    pub ends: [u64; 64],
+    pub units: [u32; 64],
+    pub latest: [u64; 64],
+    pub len: usize,
+    pub booked: u64,
+}
+
+// What a booking, a window or a block answers: the refusal's number, 0 for none, and the diary, new or unchanged.
+pub struct Booked {
+    pub refusal: u8,
+    pub timeline: ResourceTimeline,
+}
+
+// What asking a diary answers: a start with its end, none, or a refusal's number.
+pub enum Answer {
+    Fit(u64, u64),
+    None,
+    Refused(u8),
+}
+
+// A filled cell keeps the rules, after a cell with start ps and latest end pl.
+fn cell_right(s: u64, e: u64, u: u32, l: u64, ps: u64, pl: u64) -> bool
+    ensures { λ r. ⌜ r ≡ cellRight s e u l ps pl ⌝ }
+{
+    if e <= s {
+        return false;
+    }
+    if e > 4398046511104 {
+        return false;
+    }
+    if u < 1 {
+        return false;
+    }
+    if u > 10000 {
+        return false;
+    }
+    if s < ps {
+        return false;
+    }
+    if pl <= e { l == e } else { l == pl }
+}
+
+fn cell_empty(s: u64, e: u64, u: u32, l: u64) -> bool
+    ensures { λ r. ⌜ r ≡ cellEmpty s e u l ⌝ }
+{
+    if s != 0 {
+        return false;
+    }
+    if e != 0 {
+        return false;
+    }
+    if u != 0 {
+        return false;
+    }
+    l == 0
+}
+
+// The filled cells keep the rules.
+fn filled(t: ResourceTimeline) -> bool
+    requires { ⌜ t .len ≤ 64 ⌝ }
+    ensures { λ r. ⌜ r ≡ filledFrom t 0 (t .len) ⌝ }
+{
+    let len = t.len;
+    let mut ps: u64 = 0;
+    let mut pl: u64 = 0;
+    let mut i: usize = 0;
+    while i < len {
+        let s = t.starts[i];
+        let l = t.latest[i];
+        if !cell_right(s, t.ends[i], t.units[i], l, ps, pl) {
+            return false;
+        }
+        ps = s;
+        pl = l;
+        i += 1;
+    }
+    true
+}
+
+// The cells past the length are empty.
+fn empty(t: ResourceTimeline) -> bool
+    requires { ⌜ t .len ≤ 64 ⌝ }
+    ensures { λ r. ⌜ r ≡ emptyFrom t (t .len) (64 - t .len) ⌝ }
+{
+    let mut i = t.len;
+    while i < 64 {
+        if !cell_empty(t.starts[i], t.ends[i], t.units[i], t.latest[i]) {
+            return false;
+        }
+        i += 1;
+    }
+    true
+}
+
+// The booked total of the cells.
+fn sum(t: ResourceTimeline) -> u64
+    requires { ⌜ t .len ≤ 64 ⌝ }
+    requires { ⌜ filledFrom t 0 (t .len) ≡ true ⌝ }
+    ensures { λ r. ⌜ r ≡ total (bookings t) ⌝ }
+{
+    let len = t.len;
+    let mut sum: u64 = 0;
+    let mut i: usize = 0;
+    while i < len {
+        sum += (t.ends[i] - t.starts[i]) * (t.units[i] as u64);
+        i += 1;
+    }
+    sum
+}
+
+// The diary keeps the rules.
+pub fn is_valid(t: ResourceTimeline) -> bool
+    ensures { λ r. ⌜ r ≡ valid t ⌝ }
+{
+    if !calendar::is_valid(t.calendar) {
+        return false;
+    }
+    if t.capacity < 1 {
+        return false;
+    }
+    if t.capacity >= 2147483648 {
+        return false;
+    }
+    if t.len > 64 {
+        return false;
+    }
+    if !filled(t) {
+        return false;
+    }
+    if !empty(t) {
+        return false;
+    }
+    t.booked == sum(t)
+}
+
+// The refusal of an ask by its numbers, 0 for none.
+fn ask_refusal(from: u64, span: u64, units: u32) -> u8
+    ensures { λ r. ⌜ r ≡ askRefusal from span units ⌝ }
+{
+    if from > 8796093022208 {
+        return 1;
+    }
+    if span > 9007199254740992 {
+        return 1;
+    }
+    if units < 1 {
+        return 3;
+    }
+    if units > 10000 {
+        return 3;
+    }
+    0
+}
+
+// A given capacity, and at least 1.
+fn capacity_of(given: i32) -> u32
+    ensures { λ r. ⌜ (r ≡ capacityOf given) × (1 ≤ r) × (r < 2 ^ 31) ⌝ }
+{
+    if given > 1 { given as u32 } else { 1 }
+}
+
+impl ResourceTimeline {
+    // An empty diary without a calendar. Its capacity is the given one, and at least 1.
+    pub fn new(given: i32) -> ResourceTimeline
+        ensures { λ r. ⌜ (r ≡ newDiary given) × (valid r ≡ true) ⌝ }
+    {
+        let capacity = capacity_of(given);
+        let none = Calendar::new();
+        ResourceTimeline {
+            capacity: capacity,
+            calendar: none,
+            starts: [0; 64],
+            ends: [0; 64],
+            units: [0; 64],
+            latest: [0; 64],
+            len: 0,
+            booked: 0,
+        }
+    }
+
+    // Books, or refuses: 15 a diary that breaks the rules, 1 an instant, 2 end at or before start, 3 units, 4 a 65th.
+    pub fn book(self, start: u64, end: u64, units: u32) -> Booked
+        ensures { λ r. ⌜ r ≡ bookReply self start end units ⌝ }
+        ensures { λ r. ⌜ (valid self ≡ true → valid (r .timeline) ≡ true) ⌝ }
+    {
+        if !is_valid(self) {
+            return Booked {
+                refusal: 15,
+                timeline: self,
+            };
+        }
+        if start > 4398046511104 {
+            return Booked {
+                refusal: 1,
+                timeline: self,
+            };
+        }
+        if end > 4398046511104 {
+            return Booked {
+                refusal: 1,
+                timeline: self,
+            };
+        }
+        if end <= start {
+            return Booked {
+                refusal: 2,
+                timeline: self,
+            };
+        }
+        if units < 1 {
+            return Booked {
+                refusal: 3,
+                timeline: self,
+            };
+        }
+        if units > 10000 {
+            return Booked {
+                refusal: 3,
+                timeline: self,
+            };
+        }
+        if self.len >= 64 {
+            return Booked {
+                refusal: 4,
+                timeline: self,
+            };
+        }
+        let more = insert::insert(self, start, end, units);
+        Booked {
+            refusal: 0,
+            timeline: more,
+        }
+    }
+
+    // Adds a window to the calendar, or refuses as the calendar does.
+    pub fn add_window(self, start: u64, end: u64) -> Booked
+        ensures { λ r. ⌜ r ≡ calendarReply self (addWindow (self .calendar) start end) ⌝ }
+        ensures { λ r. ⌜ (valid self ≡ true → valid (r .timeline) ≡ true) ⌝ }
+    {
+        if !is_valid(self) {
+            return Booked {
+                refusal: 15,
+                timeline: self,
+            };
+        }
+        let c = self.calendar;
+        let added = c.add_window(start, end);
+        let calendar = added.calendar;
+        let mut t = self;
+        t.calendar = calendar;
+        Booked {
+            refusal: added.refusal,
+            timeline: t,
+        }
+    }
+
+    // Adds a block to the calendar, or refuses as the calendar does.
+    pub fn add_block(self, start: u64, end: u64) -> Booked
+        ensures { λ r. ⌜ r ≡ calendarReply self (addBlock (self .calendar) start end) ⌝ }
+        ensures { λ r. ⌜ (valid self ≡ true → valid (r .timeline) ≡ true) ⌝ }
+    {
+        if !is_valid(self) {
+            return Booked {
+                refusal: 15,
+                timeline: self,
+            };
+        }
+        let c = self.calendar;
+        let added = c.add_block(start, end);
+        let calendar = added.calendar;
+        let mut t = self;
+        t.calendar = calendar;
+        Booked {
+            refusal: added.refusal,
+            timeline: t,
+        }
+    }
+
+    // The least start of an unbroken span, or refuses: 15 a diary that breaks the rules, 1 from or span, 3 units.
+    pub fn earliest_fit(self, from: u64, span: u64, units: u32) -> Answer
+        ensures { λ r. ⌜ replyOf r ≡ fitReply self from span units ⌝ }
+    {
+        if !is_valid(self) {
+            return Answer::Refused(15);
+        }
+        let refusal = ask_refusal(from, span, units);
+        if refusal != 0 {
+            return Answer::Refused(refusal);
+        }
+        let found = core::earliest_fit(self, from, span, units);
+        match found {
+            core::Start::At(s) => Answer::Fit(s, s + span),
+            core::Start::Nothing => Answer::None,
+        }
+    }
+
+    // The least start of resumable work with its end, or refuses as for an unbroken span.
+    pub fn earliest_resumable(self, from: u64, work: u64, units: u32) -> Answer
+        ensures { λ r. ⌜ replyOf r ≡ resumableReply self from work units ⌝ }
+    {
+        if !is_valid(self) {
+            return Answer::Refused(15);
+        }
+        let refusal = ask_refusal(from, work, units);
+        if refusal != 0 {
+            return Answer::Refused(refusal);
+        }
+        let r = core::earliest_resumable(self, from, work, units);
+        let end = r.end;
+        match end {
+            WorkEnd::At(e) => Answer::Fit(r.start, e),
+            WorkEnd::Nothing => Answer::None,
+        }
+    }
+}
