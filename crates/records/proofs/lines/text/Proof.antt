@@ -1,0 +1,78 @@
+-- `records::lines::text` meets its contract: by the cases of the line.
+use borrow.Author.Needs.{needs}
+use native.Mathlib.Omega.{arith}
+use mathlib.Core.Path.{sym, ap, _∙_}
+use mathlib.Core.List.{_++_}
+use Rattle.records.specs.Lines.{textOf, lineOf}
+use lib.ListN.{take}
+use Rattle.records.proofs.Putting.{no-text}
+use Rattle.records.proofs.lines.text.Statement.{statement}
+use Rattle.records.proofs.lines.text.Tie as tie
+
+enum-told : tie.Need-enum-told
+enum-told c = search needs
+
+enum-known-line : tie.Need-enum-known-line
+enum-known-line c = search needs
+
+put-fit-requires : tie.Need-put-fit-requires
+put-fit-requires c κs = search needs
+
+enum-told-2 : tie.Need-enum-told-2
+enum-told-2 c = search needs
+
+slice-aggregate-put : tie.Need-slice-aggregate-put
+slice-aggregate-put c = search needs
+
+put-requires : tie.Need-put-requires
+put-requires c κs = search needs
+
+enum-known-line-2 : tie.Need-enum-known-line-2
+enum-known-line-2 c = search needs
+
+put-refused-requires : tie.Need-put-refused-requires
+put-refused-requires c κs = search needs
+
+returns : tie.Need-returns
+returns c = (omega arith, no-text _ _ (c .enum-told .given .1))
+
+same-length : tie.Need-same-length
+same-length c = search needs
+
+returns-2 : tie.Need-returns-2
+unfolding lineOf
+returns-2 c = (c .before .before .put-fit .ensures .0, c .before .before .put-fit .ensures .1 ∙ sym (ap (λ l. take (c .before .before .before .before .before .before .before .before .args .at) (c .before .before .before .before .before .before .before .before .args .out .now) ++ textOf (lineOf l)) (c .before .before .before .before .before .line .given .1)))
+
+same-length-2 : tie.Need-same-length-2
+same-length-2 c = search needs
+
+returns-3 : tie.Need-returns-3
+unfolding lineOf textOf
+returns-3 c = (omega (arith, c .before .before .put .ensures .0), c .before .before .put .ensures .1 ∙ sym (ap (λ l. take (c .before .before .before .before .before .before .before .before .args .at) (c .before .before .before .before .before .before .before .before .args .out .now) ++ textOf (lineOf l)) (c .before .before .before .before .before .enum-told2 .given .1)))
+
+same-length-3 : tie.Need-same-length-3
+same-length-3 c = search needs
+
+returns-4 : tie.Need-returns-4
+unfolding lineOf
+returns-4 c = (c .before .before .put-refused .ensures .0, c .before .before .put-refused .ensures .1 ∙ sym (ap (λ l. take (c .before .before .before .before .before .before .before .before .args .at) (c .before .before .before .before .before .before .before .before .args .out .now) ++ textOf (lineOf l)) (c .before .before .before .before .before .line2 .given .1)))
+
+pub text-spec : {M : Type 1} → statement M
+text-spec =
+    tie.close
+    (tie.spec
+    enum-told
+    enum-known-line
+    put-fit-requires
+    enum-told-2
+    slice-aggregate-put
+    put-requires
+    enum-known-line-2
+    put-refused-requires
+    returns
+    same-length
+    returns-2
+    same-length-2
+    returns-3
+    same-length-3
+    returns-4)

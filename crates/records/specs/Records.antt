@@ -1,0 +1,76 @@
+-- What a record does.
+use Prim.Native.Nat.{ℕ, zero, suc, _+_, _-_, _^_}
+use mathlib.Core.Bool.{Bool, true, false, cond, _||_}
+use mathlib.Core.List.{List, [], _∷_}
+use lib.ListN.{getD}
+use lib.IntN.{pos}
+use lib.Dec.{leb, ltb, eqb}
+use Rattle.calendar.specs.Add.{addWindow, addBlock}
+use Rattle.timeline.specs.declared.ResourceTimeline.{ResourceTimeline}
+use Rattle.timeline.specs.declared.Booked.{Booked}
+use Rattle.timeline.specs.Book.{newDiary, bookReply, calendarReply}
+use Rattle.timeline.specs.Ask.{Reply, refused, fitReply, resumableReply}
+use Rattle.records.specs.declared.Stepped.{Stepped}
+use Rattle.records.specs.declared.Turn.{Turn}
+use Rattle.records.specs.Numbers.{little}
+use Rattle.records.specs.Lines.{Printed, nothing, line, lineOf}
+
+-- kind 1: capacity (4 bytes); 2 window, 3 block: start, end (8 each); 4 booking: start, end, units (4); 5 fit, 6 resumable: from, span,
+-- units. Any other kind is unknown: 21
+unfoldable pub bodyLen : ℕ → ℕ
+bodyLen kind =
+    cond (eqb kind 1) 4
+    (cond (eqb kind 2 || eqb kind 3) 16
+    (cond (eqb kind 4 || (eqb kind 5 || eqb kind 6)) 20 21))
+
+-- the diary after a record, and what the record prints
+pub record Done : Type 0 where
+  pub timeline : ResourceTimeline
+  pub prints : Printed
+
+unfoldable pub steppedOf : Stepped → Done
+steppedOf s = record { timeline = s .timeline; prints = lineOf (s .line) }
+
+-- a new diary; a capacity above 2^31 - 1 is refused 1
+unfoldable pub capacityReply : ResourceTimeline → ℕ → Done
+capacityReply t capacity =
+    cond (ltb (2 ^ 31 - 1) capacity) (record { timeline = t; prints = line (refused 1) })
+    (record { timeline = newDiary (pos capacity); prints = nothing })
+
+-- a window, a block or a booking: only a refusal prints
+unfoldable pub books : Booked → Done
+books b = record { timeline = b .timeline; prints = cond (eqb (b .refusal) 0) nothing (line (refused (b .refusal))) }
+
+-- an ask: its reply prints, and the diary stays
+unfoldable pub asks : ResourceTimeline → Reply → Done
+asks t r = record { timeline = t; prints = line r }
+
+-- a record of a known kind, its body beginning at index i
+unfoldable pub recordDoes : ResourceTimeline → ℕ → List ℕ → ℕ → Done
+recordDoes t kind bs i =
+    cond (eqb kind 1) (capacityReply t (little bs i 4))
+    (cond (eqb kind 2) (books (calendarReply t (addWindow (t .calendar) (little bs i 8) (little bs (i + 8) 8))))
+    (cond (eqb kind 3) (books (calendarReply t (addBlock (t .calendar) (little bs i 8) (little bs (i + 8) 8))))
+    (cond (eqb kind 4) (books (bookReply t (little bs i 8) (little bs (i + 8) 8) (little bs (i + 16) 4)))
+    (cond (eqb kind 5) (asks t (fitReply t (little bs i 8) (little bs (i + 8) 8) (little bs (i + 16) 4)))
+    (asks t (resumableReply t (little bs i 8) (little bs (i + 8) 8) (little bs (i + 16) 4)))))))
+
+-- a record with its kind byte: what it did, where the next begins, and whether to go on
+pub record Turned : Type 0 where
+  pub done : Done
+  pub at : ℕ
+  pub more : Bool
+
+unfoldable pub turnOf : Turn → Turned
+turnOf r = record { done = record { timeline = r .timeline; prints = lineOf (r .line) }; at = r .at; more = r .more }
+
+abbrev pub ends : ResourceTimeline → Printed → ℕ → Turned
+ends t p i = record { done = record { timeline = t; prints = p }; at = i; more = false }
+
+-- the record that begins at index i, the input ending at index n: nothing where the input ends between two records; an unknown kind or
+-- a cut body prints `refused 9` and ends
+unfoldable pub turnReply : ResourceTimeline → List ℕ → ℕ → ℕ → Turned
+turnReply t bs i n =
+    cond (leb n i) (ends t nothing i)
+    (cond (ltb 20 (bodyLen (getD bs i 0)) || leb (n - i) (bodyLen (getD bs i 0))) (ends t (line (refused 9)) i)
+    (record { done = recordDoes t (getD bs i 0) bs (i + 1); at = i + 1 + bodyLen (getD bs i 0); more = true }))

@@ -1,0 +1,33 @@
+-- The example of 01, 'Program slot', on the definitions: its bytes, and its whole output.
+use mathlib.Core.Path.{_≡_, refl}
+use mathlib.Core.List.{List, [], _∷_, _++_}
+use Prim.Native.Nat.{ℕ}
+use lib.ListN.{replicate}
+use Rattle.calendar.specs.Search.{leastFrom}
+use Rattle.calendar.specs.Spans.{spansFrom, any, holds, meets}
+use Rattle.calendar.specs.Valid as calendar
+use Rattle.calendar.specs.Fits.{openFor, fits}
+use Rattle.calendar.specs.Work.{latest, lastChange}
+use Rattle.calendar.specs.Add.{empty}
+use Rattle.timeline.specs.Bookings.{bookingsTo, total, latestEnd}
+use Rattle.timeline.specs.Valid.{before, cellRight, cellEmpty, filledFrom, emptyFrom, valid}
+use Rattle.timeline.specs.Free.{overlaps, onAt, load, roomFrom, free}
+use Rattle.timeline.specs.Earliest.{fitsAt, lastEvent, earliestFit}
+use Rattle.timeline.specs.Book.{capacityOf, insertBooking, latestEnds, diary, bookReply}
+use Rattle.timeline.specs.Ask.{unbroken, askRefusal, refusedOr, asked}
+use Rattle.records.specs.Numbers.{little, decimalTo}
+use Rattle.records.specs.Lines.{textOf}
+use Rattle.records.specs.Records.{bodyLen, books, asks, recordDoes, turnReply}
+use Rattle.records.specs.Stream.{goOn, streamFrom, slot}
+
+-- a number below 256 in n + 1 bytes
+abbrev pub low : ℕ → ℕ → List ℕ
+low n x = x ∷ replicate n 0
+
+-- booking 100, 200, 1; kind 5 with 50, 50, 1; kind 5 with 50, 51, 1: `fit 50 100`, `fit 200 251`
+pub example : slot
+    ((4 ∷ (low 7 100 ++ (low 7 200 ++ low 3 1)))
+    ++ ((5 ∷ (low 7 50 ++ (low 7 50 ++ low 3 1))) ++ (5 ∷ (low 7 50 ++ (low 7 51 ++ low 3 1)))))
+    ≡ 102 ∷ 105 ∷ 116 ∷ 32 ∷ 53 ∷ 48 ∷ 32 ∷ 49 ∷ 48 ∷ 48 ∷ 10 ∷ 102 ∷ 105 ∷ 116 ∷ 32 ∷ 50 ∷ 48 ∷ 48 ∷ 32 ∷ 50 ∷ 53 ∷ 49 ∷ 10 ∷ []
+unfolding leastFrom spansFrom any holds meets calendar.cellRight calendar.cellsRight calendar.spansRight calendar.valid openFor fits latest lastChange empty bookingsTo total latestEnd before cellRight cellEmpty filledFrom emptyFrom valid overlaps onAt load roomFrom free fitsAt lastEvent earliestFit capacityOf insertBooking latestEnds diary bookReply unbroken askRefusal refusedOr asked little decimalTo textOf bodyLen books asks recordDoes turnReply goOn streamFrom slot
+example = refl

@@ -1,0 +1,173 @@
+// What a record of a stream does to a diary and what it prints (01, 'Program slot'). Everything that `slot` decides is here.
+use timeline::Answer;
+use timeline::Booked;
+use timeline::ResourceTimeline;
+
+mod lines;
+mod numbers;
+
+pub use lines::text;
+pub use numbers::number;
+ghost use mathlib.Core.Path.{_≡_};
+ghost use Prim.Native.Nat.{_+_, _≤_};
+ghost use lib.ListN.{length};
+ghost use mathlib.Core.Bool.{false};
+ghost use Rattle.records.specs.Lines.{lineOf, line as printed};
+ghost use Rattle.records.specs.Records.{bodyLen, steppedOf, turnOf, capacityReply, books, asks, recordDoes, turnReply};
+ghost use Rattle.timeline.specs.Ask.{replyOf};
+
+// What a record prints.
+pub enum Line {
+    Nothing,
+    Fit(u64, u64),
+    None,
+    Refused(u8),
+}
+
+// What a record does: the diary afterwards, and what it prints.
+pub struct Stepped {
+    pub timeline: ResourceTimeline,
+    pub line: Line,
+}
+
+// A record read from a run of bytes: what it did, where the next one begins, and whether to go on.
+pub struct Turn {
+    pub timeline: ResourceTimeline,
+    pub line: Line,
+    pub at: usize,
+    pub more: bool,
+}
+
+// How many bytes the body of a record has, 21 for an unknown kind.
+pub fn body_len(kind: u8) -> usize
+    ensures { λ r. ⌜ r ≡ bodyLen kind ⌝ }
+{
+    match kind {
+        1 => 4,
+        2 | 3 => 16,
+        4 | 5 | 6 => 20,
+        _ => 21,
+    }
+}
+
+// Kind 1: a new diary, or 1 for a capacity above 2^31 - 1.
+fn renew(timeline: ResourceTimeline, capacity: u64) -> Stepped
+    ensures { λ r. ⌜ steppedOf r ≡ capacityReply timeline capacity ⌝ }
+{
+    if capacity > 2147483647 {
+        return Stepped {
+            timeline: timeline,
+            line: Line::Refused(1),
+        };
+    }
+    let new = ResourceTimeline::new(capacity as i32);
+    Stepped {
+        timeline: new,
+        line: Line::Nothing,
+    }
+}
+
+// Kinds 2 to 4: only a refusal prints.
+fn told(b: Booked) -> Stepped
+    ensures { λ r. ⌜ steppedOf r ≡ books b ⌝ }
+{
+    let t = b.timeline;
+    if b.refusal == 0 {
+        return Stepped {
+            timeline: t,
+            line: Line::Nothing,
+        };
+    }
+    Stepped {
+        timeline: t,
+        line: Line::Refused(b.refusal),
+    }
+}
+
+// Kinds 5 and 6: the reply prints, and the diary stays.
+fn asked(timeline: ResourceTimeline, a: Answer) -> Stepped
+    ensures { λ r. ⌜ steppedOf r ≡ asks timeline (replyOf a) ⌝ }
+{
+    let line = line_of(a);
+    Stepped {
+        timeline: timeline,
+        line: line,
+    }
+}
+
+fn line_of(a: Answer) -> Line
+    ensures { λ r. ⌜ lineOf r ≡ printed (replyOf a) ⌝ }
+{
+    match a {
+        Answer::Fit(s, e) => Line::Fit(s, e),
+        Answer::None => Line::None,
+        Answer::Refused(n) => Line::Refused(n),
+    }
+}
+
+// What one record of a known kind does, its body beginning at `at`.
+pub fn step(timeline: ResourceTimeline, kind: u8, bytes: &[u8], at: usize) -> Stepped
+    requires { ⌜ (bodyLen kind ≤ 20) × (at + bodyLen kind ≤ length (now bytes)) ⌝ }
+    ensures { λ r. ⌜ steppedOf r ≡ recordDoes timeline kind (now (bytes .entry)) at ⌝ }
+{
+    if kind == 1 {
+        return renew(timeline, number(bytes, at, 4));
+    }
+    let first = number(bytes, at, 8);
+    let second = number(bytes, at + 8, 8);
+    if kind == 2 {
+        return told(timeline.add_window(first, second));
+    }
+    if kind == 3 {
+        return told(timeline.add_block(first, second));
+    }
+    let units = number(bytes, at + 16, 4) as u32;
+    if kind == 4 {
+        return told(timeline.book(first, second, units));
+    }
+    if kind == 5 {
+        return asked(timeline, timeline.earliest_fit(first, second, units));
+    }
+    asked(timeline, timeline.earliest_resumable(first, second, units))
+}
+
+// The stream ends here, and prints the line.
+fn last(timeline: ResourceTimeline, line: Line, at: usize) -> Turn
+    ensures { λ r. ⌜ (r .timeline ≡ timeline) × (r .line ≡ line) × (r .at ≡ at) × (r .more ≡ false) ⌝ }
+{
+    Turn {
+        timeline: timeline,
+        line: line,
+        at: at,
+        more: false,
+    }
+}
+
+// The record that begins at `at`, `len` being the end of the input: nothing where the input ends here, 9 for an unknown kind or a
+// cut body.
+pub fn record(timeline: ResourceTimeline, bytes: &[u8], at: usize, len: usize) -> Turn
+    requires { ⌜ (at ≤ len) × (len ≤ length (now bytes)) ⌝ }
+    ensures { λ r. ⌜ turnOf r ≡ turnReply timeline (now (bytes .entry)) at len ⌝ }
+    ensures { λ r. ⌜ r .at ≤ len ⌝ }
+{
+    if at == len {
+        return last(timeline, Line::Nothing, at);
+    }
+    let kind = bytes[at];
+    let n = body_len(kind);
+    if n > 20 {
+        return last(timeline, Line::Refused(9), at);
+    }
+    if len - at <= n {
+        return last(timeline, Line::Refused(9), at);
+    }
+    let s = step(timeline, kind, bytes, at + 1);
+    let t = s.timeline;
+    let line = s.line;
+    Turn {
+        timeline: t,
+        line: line,
+        at: at + 1 + n,
+        more: true,
+    }
+}
