@@ -5,7 +5,7 @@ use mathlib.Core.Path.{_≡_, refl}
 use Prim.Native.Nat.{_+_, _-_, _≤_}
 use lib.ListN.{length, length-set}
 use lib.Seq.{paste, paste-zero}
-use Rattle.records.proofs.Putting.{put-step, put-end}
+use Rattle.records.proofs.Putting.{put-step, put-end, put-rest}
 use Rattle.records.proofs.lines.put.Statement.{statement}
 use Rattle.records.proofs.lines.put.Tie as tie
 
@@ -53,8 +53,13 @@ same-length c = c .before .loop .inv .3
 returns : tie.Need-returns Inv-loop μ-loop
 returns c =
     let l = c .before .loop in
-    let a = c .before .before .args in
-    (refl, put-end (a .out .now) (a .src .now) (l .out) (a .at) (l .i) (a .n) (l .inv .2) (l .inv .1) (omega arith) (l .inv .4))
+    let a = c .before .before .args in (
+      refl,
+      (
+        put-end (a .out .now) (a .src .now) (l .out) (a .at) (l .i) (a .n) (l .inv .2) (l .inv .1) (omega arith) (l .inv .4),
+        put-rest (a .out .now) (a .src .now) (l .out) (a .at) (l .i) (a .n) (l .inv .2) (l .inv .1) (omega arith) (l .inv .4),
+      ),
+    )
 
 pub put-spec : {M : Type 1} → statement M
 put-spec =

@@ -1,10 +1,11 @@
 -- `records::lines::put_fit` meets its contract: five pieces, one behind the other.
 use borrow.Author.Needs.{needs}
 use native.Mathlib.Omega.{arith}
+use mathlib.Core.Path.{_∙_}
 use mathlib.Core.List.{[], _∷_}
 use lib.ListN.{take}
 use Rattle.records.specs.Lines.{textOf}
-use Rattle.records.proofs.Putting.{five}
+use Rattle.records.proofs.Putting.{five, rest-more}
 use Rattle.records.proofs.lines.put_fit.Statement.{statement}
 use Rattle.records.proofs.lines.put_fit.Tie as tie
 
@@ -37,10 +38,23 @@ same-length c = search needs
 
 returns : tie.Need-returns
 unfolding textOf
-returns c = (
-  omega (arith, c .before .before .before .before .before .before .before .before .before .before .before .before .before .before .before .before .before .before .before .before .put .ensures .0, c .before .before .before .before .before .before .before .before .before .before .before .before .before .before .before .before .put-number .ensures .0, c .before .before .before .before .before .before .before .before .before .before .before .put2 .ensures .0, c .before .before .before .before .before .before .before .put-number2 .ensures .0, c .before .before .put3 .ensures .0),
-  five (take (c .before .before .before .before .before .before .before .before .before .before .before .before .before .before .before .before .before .before .before .before .before .before .before .before .args .at) (c .before .before .before .before .before .before .before .before .before .before .before .before .before .before .before .before .before .before .before .before .before .before .before .before .args .out .now)) _ _ _ _ _ (102 ∷ 105 ∷ 116 ∷ 32 ∷ []) _ _ _ _ (c .before .before .before .before .before .before .before .before .before .before .before .before .before .before .before .before .before .before .before .before .put .ensures .1) (c .before .before .before .before .before .before .before .before .before .before .before .before .before .before .before .before .put-number .ensures .1) (c .before .before .before .before .before .before .before .before .before .before .before .put2 .ensures .1) (c .before .before .before .before .before .before .before .put-number2 .ensures .1) (c .before .before .put3 .ensures .1),
-)
+returns c =
+    let a = c .before .before .before .before .before .before .before .before .before .before .before .before .before .before .before .before .before .before .before .before .before .before .before .before .args in
+    let p = c .before .before .before .before .before .before .before .before .before .before .before .before .before .before .before .before .before .before .before .before .put in
+    let q = c .before .before .before .before .before .before .before .before .before .before .before .before .before .before .before .before .put-number in
+    let r = c .before .before .before .before .before .before .before .before .before .before .before .put2 in
+    let s = c .before .before .before .before .before .before .before .put-number2 in
+    let t = c .before .before .put3 in (
+      omega (arith, p .ensures .0, q .ensures .0, r .ensures .0, s .ensures .0, t .ensures .0),
+      (
+        five (take (a .at) (a .out .now)) _ _ _ _ _ (102 ∷ 105 ∷ 116 ∷ 32 ∷ []) _ _ _ _ (p .ensures .1 .0) (q .ensures .1 .0) (r .ensures .1 .0) (s .ensures .1 .0) (t .ensures .1 .0),
+        t .ensures .1 .1
+            ∙ rest-more (s .result) (t .result) (s .last .0) (r .last .0) (omega (arith, p .ensures .0, q .ensures .0, r .ensures .0, s .ensures .0, t .ensures .0)) (s .ensures .1 .1)
+            ∙ rest-more (r .result) (t .result) (r .last .0) (q .last .0) (omega (arith, p .ensures .0, q .ensures .0, r .ensures .0, s .ensures .0, t .ensures .0)) (r .ensures .1 .1)
+            ∙ rest-more (q .result) (t .result) (q .last .0) (p .last .0) (omega (arith, p .ensures .0, q .ensures .0, r .ensures .0, s .ensures .0, t .ensures .0)) (q .ensures .1 .1)
+            ∙ rest-more (p .result) (t .result) (p .last .0) (a .out .now) (omega (arith, p .ensures .0, q .ensures .0, r .ensures .0, s .ensures .0, t .ensures .0)) (p .ensures .1 .1),
+      ),
+    )
 
 pub put-fit-spec : {M : Type 1} → statement M
 put-fit-spec =

@@ -23,8 +23,11 @@ returns c =
     let d = c .before .before .before .before .before .decimal in
     let p = c .before .before .put-digits in
     let a = c .before .before .before .before .before .before .before .before .args in (
-      omega (arith, p .ensures .0 .0, p .ensures .0 .1),
-      p .ensures .1 ∙ ap (λ (x : List ℕ). take (a .at) (a .out .now) ++ x) (d .ensures .1 .1 ∙ digits-decimal 19 (a .n) (d .result) (p .ensures .0 .1) (d .ensures .1 .0)),
+      (omega (arith, p .ensures .0 .0), omega (arith, p .ensures .0 .0, p .ensures .0 .1)),
+      (
+        p .ensures .1 .0 ∙ ap (λ (x : List ℕ). take (a .at) (a .out .now) ++ x) (d .ensures .1 .1 ∙ digits-decimal 19 (a .n) (d .result) (p .ensures .0 .1) (d .ensures .1 .0)),
+        p .ensures .1 .1,
+      ),
     )
 
 pub put-number-spec : {M : Type 1} → statement M
