@@ -3,8 +3,11 @@ pub mod Rules
 pub mod Shift
 pub mod Rows
 pub mod Loading
+pub mod Columns
 pub mod Searching
+pub mod Listing
 pub mod Stepping
 pub mod Gaps
 pub mod Finding
 pub mod Meaning
+pub mod Keeping

@@ -3,7 +3,7 @@ use mathlib.Core.Path.{_≡_, refl, sym, ap, _∙_, fun-ext}
 use mathlib.Core.Bool.{Bool, true, false, _&&_, cond}
 use mathlib.Core.List.{List, [], _∷_}
 use mathlib.Core.Logic.{_⊎_, inl, inr, ⊎-elim}
-use Prim.Native.Nat.{ℕ, zero, suc, _+_, _-_, _≤_, _<_}
+use Prim.Native.Nat.{ℕ, zero, suc, _+_, _-_, _≤_, _<_, max}
 use native.Mathlib.Omega.{arith}
 use lib.Dec.{eqb}
 use borrow.Author.Tests.{eqb-true, eq-eqb}
@@ -15,7 +15,7 @@ use Rattle.calendar.specs.Work.{working, joint, endFrom, workEnd, lastChange, j
 use Rattle.calendar.specs.Meaning.{Least, least-found, fits-is, working-is}
 use Rattle.calendar.proofs.Running.{run-done}
 use Rattle.timeline.specs.declared.ResourceTimeline.{ResourceTimeline}
-use Rattle.timeline.specs.Bookings.{Booking, bookings}
+use Rattle.timeline.specs.Bookings.{Booking, bookings, latestEnd}
 use Rattle.timeline.specs.Valid.{valid}
 use Rattle.timeline.specs.Free.{onAt, load, free}
 use Rattle.timeline.specs.Earliest.{freeOn, fitsAt, freeTo, startsAt, lastEvent, earliestFit, earliestResumable}
@@ -126,6 +126,23 @@ load-more [] cs s e p f = omega arith
 load-more (b ∷ bs) cs s e p f =
     let one : 1 ≤ times b cs = omega (arith, rw (same-self b) at (f b)) in
     omega (arith, load-remove b cs s e p one, load-more bs (remove b cs) s e p (λ c. omega (arith, f c, times-remove b c cs)))
+
+-- more bookings end no sooner
+end-among : (b : Booking) (xs : List Booking) → 1 ≤ times b xs → b .end ≤ latestEnd xs
+unfolding times latestEnd
+end-among b [] h = absurd (omega arith)
+end-among b (x ∷ xs) h = go (same b x) refl (end-among b xs) h
+  where
+    go : (q : Bool) → same b x ≡ q → (1 ≤ times b xs → b .end ≤ latestEnd xs) → 1 ≤ cond q 1 0 + times b xs → b .end ≤ max (x .end) (latestEnd xs)
+    go true e f g = rw (same-is b x e) (omega arith)
+    go false e f g = omega (arith, f (omega arith))
+
+pub latest-more : (bs cs : List Booking) → Holds bs cs → latestEnd bs ≤ latestEnd cs
+unfolding latestEnd times
+latest-more [] cs f = omega arith
+latest-more (b ∷ bs) cs f =
+    let one : 1 ≤ times b cs = omega (arith, rw (same-self b) at (f b)) in
+    omega (arith, end-among b cs one, latest-more bs cs (λ c. omega (arith, f c)))
 
 -- more bookings free nothing ..
 pub free-more : (cap : ℕ) (bs cs : List Booking) (u s e : ℕ) → Holds bs cs → free cap cs u s e ≡ true → free cap bs u s e ≡ true

@@ -12,6 +12,7 @@ use Rattle.calendar.specs.declared.Calendar.{Calendar}
 use Rattle.calendar.specs.Basics.{and-split, and-join, and-true, not-both}
 use Rattle.calendar.specs.Search.{Found, nothing, at}
 use Rattle.calendar.specs.Spans.{spansFrom}
+use Rattle.calendar.specs.Valid as calendar
 use Rattle.calendar.specs.Fits.{fits}
 use Rattle.calendar.specs.Work.{working, joint, jointEnd, latest, lastChange}
 use Rattle.calendar.specs.Meaning.{Quiet, fits-back, working-back, joint-changeless, joint-end-found, work-end-back}
@@ -62,11 +63,15 @@ ends-of t x s k l e =
     let h : k < t .len = rw (count t) at l in
     s .ends k h (sym (ap (λ (b : Booking). b .end) (booking-at t k h)) ∙ e)
 
+-- free on the diary one later and up to a later end: free already, where nothing happens
+pub free-on-back : (t : ResourceTimeline) (u x e e′ : ℕ) → Still t (suc x) → e ≤ e′ → freeOn t u (suc x) e′ ≡ true → freeOn t u x e ≡ true
+free-on-back t u x e e′ s l h = free-back (t .capacity) (bookings t) u x e e′ l (ends-of t (suc x) s) h
+
 pub fits-at-back : (t : ResourceTimeline) (span u x : ℕ) → Still t (suc x) → fitsAt t span u (suc x) ≡ true → fitsAt t span u x ≡ true
 unfolding fitsAt
 fits-at-back t span u x s h =
     let w = and-split (fits (t .calendar) (suc x) (suc x + span)) (freeOn t u (suc x) (suc x + span)) h in
-    and-join _ _ (fits-back (t .calendar) x span (s .quiet) (w .0)) (free-back (t .capacity) (bookings t) u x (x + span) (suc x + span) (omega arith) (ends-of t (suc x) s) (w .1))
+    and-join _ _ (fits-back (t .calendar) x span (s .quiet) (w .0)) (free-on-back t u x (x + span) (suc x + span) s (omega arith) (w .1))
 
 pub joint-one : (c : Calendar) (p : ℕ) → joint (c ∷ []) p ≡ working c p
 unfolding joint
@@ -82,7 +87,7 @@ starts-at-back t work u x s h = go (jointEnd (t .calendar ∷ []) (suc x) work) 
         let on = joint-end-found (t .calendar ∷ []) (suc x) work d e .0 in
         let here = joint-one (t .calendar) x ∙ working-back (t .calendar) x (s .quiet) (sym (joint-one (t .calendar) (suc x)) ∙ on) in
         let r = work-end-back (lastChange (t .calendar ∷ [])) (joint (t .calendar ∷ [])) x work d (joint-changeless (t .calendar ∷ [])) here e in
-        rw (r .1) (free-back (t .capacity) (bookings t) u x (r .0) d (r .2) (ends-of t (suc x) s) g)
+        rw (r .1) (free-on-back t u x (r .0) d s (r .2) g)
 
 -- between an instant and the next candidate nothing happens
 pub next-still : (t : ResourceTimeline) (x r y : ℕ) → Next t x r → x ≤ y → suc y < r → Still t (suc y)
@@ -124,21 +129,26 @@ last-most (b ∷ bs) m f = omega (arith, f 0 (omega arith), last-most bs m (λ k
 pub booked-end : (t : ResourceTimeline) (k : ℕ) → k < t .len → getD (t .ends) k 0 ≤ latestEnd (bookings t)
 booked-end t k h = rw (ap (λ (b : Booking). b .end) (booking-at t k h)) at (end-last (bookings t) k (rw (count t) h))
 
+-- past its last change a calendar is quiet
+pub quiet-past : (c : Calendar) → calendar.valid c ≡ true → (y : ℕ) → lastChange (c ∷ []) ≤ y → Quiet c (suc y)
+unfolding lastChange
+quiet-past c v y h = record {
+  windows = λ k l e.
+      let f = filled (c .windows) (windows-right c v) k l in
+      let z : 0 + k ≡ k = omega arith in
+      let g = rw z at (end-latest (c .windows) 0 (c .windows .len) k l) in
+      omega arith;
+  blocks = λ k l e.
+      let z : 0 + k ≡ k = omega arith in
+      let g = rw z at (end-latest (c .blocks) 0 (c .blocks .len) k l) in
+      omega arith;
+}
+
 -- from the last event on nothing happens
 pub last-still : (t : ResourceTimeline) → Rules t → (y : ℕ) → lastEvent t ≤ y → Still t (suc y)
-unfolding lastEvent lastChange
+unfolding lastEvent
 last-still t r y h = record {
-  quiet = record {
-    windows = λ k l e.
-        let f = filled (t .calendar .windows) (windows-right _ (r .calendar)) k l in
-        let z : 0 + k ≡ k = omega arith in
-        let g = rw z at (end-latest (t .calendar .windows) 0 (t .calendar .windows .len) k l) in
-        omega arith;
-    blocks = λ k l e.
-        let z : 0 + k ≡ k = omega arith in
-        let g = rw z at (end-latest (t .calendar .blocks) 0 (t .calendar .blocks .len) k l) in
-        omega arith;
-  };
+  quiet = quiet-past (t .calendar) (r .calendar) y (omega arith);
   ends = λ k l e. omega (arith, booked-end t k l);
 }
 

@@ -5,5 +5,6 @@ pub mod Free
 pub mod Earliest
 pub mod Book
 pub mod Ask
+pub mod Reading
 pub mod Steps
 pub mod Runs

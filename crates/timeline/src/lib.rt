@@ -10,10 +10,11 @@ ghost use mathlib.Core.Path.{_≡_};
 ghost use mathlib.Core.Bool.{true};
 ghost use Prim.Native.Nat.{_-_, _^_, _≤_, _<_};
 ghost use Rattle.calendar.specs.Add.{addWindow, addBlock};
-ghost use Rattle.timeline.specs.Bookings.{bookings, total, latestEnd};
+ghost use Rattle.timeline.specs.Bookings.{bookings, total};
 ghost use Rattle.timeline.specs.Valid.{cellRight, cellEmpty, filledFrom, emptyFrom, valid};
 ghost use Rattle.timeline.specs.Book.{capacityOf, newDiary, bookReply, calendarReply};
 ghost use Rattle.timeline.specs.Ask.{askRefusal, replyOf, fitReply, resumableReply};
+ghost use Rattle.timeline.specs.Reading.{readOf, capacityRead, bookedRead, latestRead};
 
 // 01: diary. The booking in cell i is starts[i], ends[i], units[i], and latest[i] the latest end of cells 0 to i (the Rust's
 // latest_end_to). Cells past `len` are 0. No windows and no blocks: a diary without a calendar.
@@ -38,6 +39,12 @@ pub struct Booked {
 pub enum Answer {
     Fit(u64, u64),
     None,
+    Refused(u8),
+}
+
+// What reading a diary answers: a number, or a refusal's number.
+pub enum Reading {
+    Value(u64),
     Refused(u8),
 }
 
@@ -297,6 +304,40 @@ impl ResourceTimeline {
             refusal: added.refusal,
             timeline: t,
         }
+    }
+
+    // Units that can be booked at once, or refuses: 15 a diary that breaks the rules.
+    pub fn capacity(self) -> Reading
+        ensures { λ r. ⌜ readOf r ≡ capacityRead self ⌝ }
+    {
+        if !is_valid(self) {
+            return Reading::Refused(15);
+        }
+        Reading::Value(self.capacity as u64)
+    }
+
+    // The booked total, or refuses: 15 a diary that breaks the rules.
+    pub fn booked_ms(self) -> Reading
+        ensures { λ r. ⌜ readOf r ≡ bookedRead self ⌝ }
+    {
+        if !is_valid(self) {
+            return Reading::Refused(15);
+        }
+        Reading::Value(self.booked)
+    }
+
+    // The latest end, 0 where there is no booking, or refuses: 15 a diary that breaks the rules.
+    pub fn latest_end(self) -> Reading
+        ensures { λ r. ⌜ readOf r ≡ latestRead self ⌝ }
+    {
+        if !is_valid(self) {
+            return Reading::Refused(15);
+        }
+        let len = self.len;
+        if len == 0 {
+            return Reading::Value(0);
+        }
+        Reading::Value(self.latest[len - 1])
     }
 
     // The least start of an unbroken span, or refuses: 15 a diary that breaks the rules, 1 from or span, 3 units.

@@ -1,7 +1,7 @@
 //! Counts what came up in the streams: replies of each kind, and placings by what took part.
 
 use crate::records::Record;
-use std::collections::BTreeMap;
+use std::collections::{BTreeMap, HashMap};
 
 /// What the records of a stream have built so far, as far as the counts need it.
 #[derive(Default)]
@@ -17,6 +17,11 @@ struct Seen {
     requirements: Vec<Vec<u64>>,
     speeds: u16,
     own_durations: u16,
+    /// The numbers on the board, the totals of own durations, and the entries of matrices: by
+    /// number, last category (16 for a first entry) and this one.
+    on: u16,
+    totals: [u64; 16],
+    entries: HashMap<(u64, u64, u64), u64>,
 }
 
 impl Seen {
@@ -31,9 +36,21 @@ impl Seen {
             3 => self.blocks = true,
             16 => {
                 self.resources += 1;
+                self.on |= 1 << (numbers[0] & 15);
                 (self.given, self.windows, self.blocks) = (1, false, false);
             }
-            17..=19 => self.matrices |= 1 << (numbers[0] & 15),
+            17..=19 => {
+                self.matrices |= 1 << (numbers[0] & 15);
+                match numbers[..] {
+                    [number, last, this, ms] => {
+                        self.entries.insert((number, last, this), ms);
+                    }
+                    [number, this, ms] if record.kind == 19 => {
+                        self.entries.insert((number, 16, this), ms);
+                    }
+                    _ => self.entries.retain(|e, _| e.0 != numbers[0]),
+                }
+            }
             20 => self.transport = true,
             21 => {
                 self.order = numbers.clone();
@@ -50,6 +67,7 @@ impl Seen {
             }
             24 => {
                 self.own_durations |= 1 << (numbers[0] & 15);
+                self.totals[(numbers[0] & 15) as usize] = numbers[1..].iter().sum();
                 self.speeds &= !(1 << (numbers[0] & 15));
             }
             34 => (self.windows, self.blocks) = (false, false),
@@ -64,6 +82,7 @@ pub struct Counts {
     pub asks: u64,
     pub placings: u64,
     pub calendar_asks: u64,
+    pub board_asks: u64,
     all: BTreeMap<String, u64>,
 }
 
@@ -103,6 +122,7 @@ impl Counts {
                         self.one("calendar: work: end behind a pause");
                     }
                 }
+                40..=43 => self.board_ask(&seen, record, reply),
                 _ => {}
             }
         }
@@ -132,6 +152,57 @@ impl Counts {
         for (fact, _) in facts.iter().filter(|f| f.1) {
             self.one(&format!("diary: {fact}"));
         }
+    }
+
+    fn board_ask(&mut self, seen: &Seen, record: &Record, reply: &str) {
+        self.board_asks += 1;
+        let numbers = &record.numbers;
+        let facts = match record.kind {
+            40 => {
+                let held = &numbers[1..1 + numbers[0] as usize];
+                let among = |set: u16| held.iter().filter(move |&&n| set >> n & 1 == 1);
+                let own = among(seen.own_durations).map(|&n| (seen.totals[n as usize], n));
+                let most = own.clone().max().map_or(0, |m| m.0);
+                let equal: u16 =
+                    own.clone().filter(|o| o.0 == most).fold(0, |set, o| set | 1 << o.1);
+                let twice = among(seen.speeds).any(|n| held.iter().filter(|m| *m == n).count() > 1);
+                let speeds = among(seen.speeds).count();
+                vec![
+                    (format!("durations: {} held", held.len()), true),
+                    ("durations: own ones".into(), own.count() > 0),
+                    ("durations: own ones with equal totals".into(), equal.count_ones() > 1),
+                    (format!("durations: {speeds} speeds alone"), most == 0 && equal == 0),
+                    ("durations: one speed twice".into(), twice && equal == 0),
+                ]
+            }
+            41 => {
+                let last = numbers[1].min(16);
+                let entry = seen.entries.get(&(numbers[0], last, numbers[2]));
+                let set = entry.is_some_and(|&ms| ms != u64::MAX);
+                let sort = match (seen.matrices >> numbers[0] & 1 == 1, last, set) {
+                    (false, _, _) => "the order's own",
+                    (_, 16, true) => "first entry",
+                    (_, 16, false) => "first entry, absent",
+                    (_, _, true) => "pair",
+                    (_, last, false) if last == numbers[2] => "pair of equal ones, absent",
+                    _ => "pair, absent",
+                };
+                vec![(format!("setup: {sort}"), true)]
+            }
+            42 => {
+                let off = numbers[0] as u16 & !seen.on != 0;
+                let none = reply == "transport 0\n";
+                vec![
+                    (format!("transport: {}", if none { "0" } else { "above 0" }), true),
+                    ("transport: from numbers off the board too".into(), off),
+                ]
+            }
+            _ => {
+                let by = if numbers[1] == 0 { "type" } else { "candidates" };
+                vec![(format!("serving: by {by}: {}", reply.trim()), true)]
+            }
+        };
+        facts.iter().filter(|f| f.1).for_each(|(fact, _)| self.one(&format!("board: {fact}")));
     }
 
     fn placing(&mut self, seen: &Seen, record: &Record, reply: &str) {

@@ -3,6 +3,8 @@
 
 #![allow(dead_code)] // of the test copy of the Rust only a part is called
 
+mod ask_speed;
+mod board_stream;
 mod compare;
 mod count;
 mod interval_set;
@@ -53,7 +55,7 @@ use std::path::Path;
 
 /// beside MODE SEED PROGRAMS VECTORS, as `run` calls it. By hand, from standard input to standard
 /// output: reply SIDE KINDS (what a side replies to a stream), show KINDS (a stream as readable
-/// lines), make (readable lines as a stream).
+/// lines), make (readable lines as a stream), random KINDS SEED CASES (a stream of the runs).
 fn main() {
     let args: Vec<String> = std::env::args().skip(1).collect();
     let words: Vec<&str> = args.iter().map(String::as_str).collect();
@@ -61,6 +63,7 @@ fn main() {
         ["reply", side, kinds] => reply(side, kinds),
         ["show", kinds] => show(kinds),
         ["make"] => make(),
+        ["random", kinds, seed, cases] => random(kinds, seed, cases),
         [mode, seed, programs, vectors] => {
             let seed = seed.parse().expect("a seed is a number");
             run(mode, seed, Path::new(programs), Path::new(vectors))
@@ -75,7 +78,7 @@ fn run(mode: &str, seed: u64, programs: &Path, folder: &Path) -> bool {
     let all = |plan: &runs::Plan| {
         let agree = marked::run_marked(programs)
             & refusals::run_refusals(programs)
-            & runs::run(plan, seed, programs);
+            & runs::run(plan, None, seed, programs);
         agree && vectors::check(folder, programs)
     };
     match mode {
@@ -83,9 +86,10 @@ fn run(mode: &str, seed: u64, programs: &Path, folder: &Path) -> bool {
         "short" => all(&runs::SHORT),
         "marked" => marked::run_marked(programs),
         "refusals" => refusals::run_refusals(programs),
+        "board" => runs::run(&runs::FULL, Some(Known::Board), seed, programs),
         "teeth" => teeth::run(seed),
         "vectors" => vectors::write(folder),
-        "speed" => speed::run(programs),
+        "speed" => speed::run(programs) & ask_speed::run(programs),
         _ => panic!("no such mode"),
     }
 }
@@ -120,8 +124,16 @@ fn make() -> bool {
     std::io::stdout().write_all(&bytes).is_ok()
 }
 
+fn random(kinds: &str, seed: &str, cases: &str) -> bool {
+    let mut r = random::Random(seed.parse().expect("a seed is a number"));
+    let size = random::Size::random(&mut r);
+    let cases = cases.parse().expect("how many cases");
+    let bytes = records::encode(&runs::make(&mut r, known(kinds), size, cases));
+    std::io::stdout().write_all(&bytes).is_ok()
+}
+
 fn known(kinds: &str) -> Known {
-    Known::named(kinds).expect("the kinds are slot, offer, calendar or all")
+    Known::named(kinds).expect("the kinds are slot, offer, calendar, board or all")
 }
 
 fn input() -> Vec<u8> {

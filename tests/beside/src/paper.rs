@@ -44,7 +44,7 @@ pub enum Instants {
 pub type Refusal = Option<u8>;
 
 /// The first number of the list whose fault is there.
-fn first(faults: &[(u8, bool)]) -> Refusal {
+pub fn first(faults: &[(u8, bool)]) -> Refusal {
     faults.iter().find(|f| f.1).map(|f| f.0)
 }
 

@@ -207,6 +207,37 @@ impl PaperSide {
             }
             (37, &[]) => self.list.clear(),
             (38, &[rounds, from, step, work]) => return self.measure(rounds, from, step, work),
+            (40, &[count, ref held @ ..]) => {
+                let held: Vec<u8> = held.iter().map(|&n| byte(n)).collect();
+                let bad = count > 8 || held[..count as usize].iter().any(|&n| n > 15);
+                accept(bad.then_some(5))?;
+                accept(self.order.refusal(0, SLATE))?;
+                let d = durations_on(&self.order, &held[..count as usize]);
+                return Ok(format!("duration {} {} {}\n", d.setup, d.process, d.teardown));
+            }
+            (41, &[number, last, category, own]) => {
+                let resource = self.board.find(byte(number)).ok_or(5)?;
+                accept(first(&[(5, category > 15), (1, own > DURATION)]))?;
+                let last = (last <= 15).then_some(byte(last));
+                return Ok(format!("setup {}\n", resource.setup_behind(last, byte(category), own)));
+            }
+            (42, &[come_from, to]) => {
+                accept((!self.board.has(byte(to))).then_some(5))?;
+                let ms = self.board.transport_to(come_from as u16, byte(to));
+                return Ok(format!("transport {ms}\n"));
+            }
+            (43, &[kind, candidates, skills, number]) => {
+                let resource = self.board.find(byte(number)).ok_or(5)?;
+                let (kind, candidates) = (byte(kind), candidates as u16);
+                let serves = resource.serves(&Requirement {
+                    kind,
+                    candidates,
+                    skills,
+                    quantity: 1,
+                    usage: 1,
+                });
+                return Ok(if serves { "serves\n" } else { "no\n" }.to_string());
+            }
             _ => unreachable!("the reader gives whole records of known kinds"),
         }
         Ok(String::new())

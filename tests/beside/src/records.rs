@@ -1,5 +1,5 @@
 //! The record streams: one kind byte and a body of little-endian numbers, as 01 has them for
-//! `slot` and docs/RECORDS.md for `offer`, and the kinds of the calendar's test program. A record
+//! `slot` and docs/RECORDS.md for `offer`, and the kinds of the two test programs. A record
 //! is kept as its kind and its numbers, so that it can be made smaller without knowing it.
 
 use std::fmt;
@@ -42,7 +42,7 @@ const B4: Form = Bytes(4);
 const B8: Form = Bytes(8);
 
 /// Kind, readable name, numbers. Kind 16 has a count and companions behind these.
-pub const KINDS: [(u8, &str, &[Form]); 24] = [
+pub const KINDS: [(u8, &str, &[Form]); 28] = [
     (1, "diary", &[B4]),                   // capacity
     (2, "window", &[B8, B8]),              // start, end
     (3, "block", &[B8, B8]),               // start, end
@@ -69,6 +69,10 @@ pub const KINDS: [(u8, &str, &[Form]); 24] = [
     (36, "work", &[B8, B8]),                    // start, work
     (37, "unlist", &[]),                        // the list is empty again
     (38, "measure", &[B4, B8, B8, B8]),         // rounds, from, step, work
+    (40, "lasting", &[B1; 9]),                  // count, eight numbers
+    (41, "setup", &[B1, B1, B1, B8]),           // number, last, category, own setup
+    (42, "journey", &[B2, B1]),                 // come from, to
+    (43, "serves", &[B1, B2, B8, B1]),          // type, candidates, skills, number
 ];
 
 /// Which kinds a program knows; every other kind is unknown to it.
@@ -77,6 +81,7 @@ pub enum Known {
     Slot,
     Offer,
     Calendar,
+    Board,
     All,
 }
 
@@ -85,7 +90,10 @@ impl Known {
         match self {
             Known::Slot => kind <= 6,
             Known::Offer => kind <= 4 || (16..=26).contains(&kind),
-            Known::Calendar => kind == 2 || kind == 3 || kind >= 32,
+            Known::Calendar => kind == 2 || kind == 3 || (32..=38).contains(&kind),
+            Known::Board => {
+                kind <= 4 || (16..=24).contains(&kind) || (40..=43).contains(&kind)
+            }
             Known::All => true,
         }
     }
@@ -95,6 +103,7 @@ impl Known {
             ("slot", Known::Slot),
             ("offer", Known::Offer),
             ("calendar", Known::Calendar),
+            ("board", Known::Board),
             ("all", Known::All),
         ]
         .iter()

@@ -106,6 +106,7 @@ pub struct Reference {
     tables: HashMap<u64, MatrixTable>,
     /// With the matrices of the tables; none once a table has changed.
     scheduler: Option<SimpleScheduler>,
+    matrices: Option<TransitionMatrixCollection>,
     last_category: HashMap<String, String>,
     activity: Activity,
     task: Task,
@@ -126,6 +127,7 @@ impl Reference {
             timelines: HashMap::new(),
             tables: HashMap::new(),
             scheduler: None,
+            matrices: None,
             last_category: HashMap::new(),
             activity: Activity::new("A", "T", 0),
             task: Task::new("T"),
@@ -139,7 +141,7 @@ impl Reference {
         side
     }
 
-    fn timeline(&mut self) -> &ResourceTimeline {
+    pub fn timeline(&mut self) -> &ResourceTimeline {
         let (hand, keep) = (&self.hand, self.empty_calendars);
         self.asked.get_or_insert_with(|| hand.timeline(&hand.resource("R", 0, keep)))
     }
@@ -166,6 +168,7 @@ impl Reference {
 
     fn table(&mut self, number: u64) -> &mut MatrixTable {
         self.scheduler = None;
+        self.matrices = None;
         self.tables.entry(number).or_insert_with(|| MatrixTable::new(0, 0))
     }
 
@@ -195,6 +198,35 @@ impl Reference {
             requirement = requirement.with_skill(skill);
         }
         self.activity.resource_requirements.push(requirement);
+    }
+
+    /// The setup of a category behind another, which is above 15 where nothing was last.
+    fn setup(&mut self, number: u64, last: u64, category: u64, own: i64) -> i64 {
+        let tables = &self.tables;
+        let matrices = self.matrices.get_or_insert_with(|| {
+            let mut all = TransitionMatrixCollection::new();
+            tables.iter().for_each(|(n, t)| all.add(t.matrix(&resource_id(*n))));
+            all
+        });
+        let last = (last <= 15).then(|| category_id(last));
+        matrices.setup_ms(&resource_id(number), last.as_deref(), &category_id(category), own)
+    }
+
+    fn transport(&self, come_from: u64, to: u64) -> i64 {
+        let from: Vec<String> = ids(come_from).collect();
+        let found = |id: &str| self.resources.iter().find(|r| r.id == id);
+        transport_between(found, from.iter().map(String::as_str), &[&resource_id(to)])
+    }
+
+    fn serves(&self, kind: u64, candidates: u64, set: u64, number: u64) -> bool {
+        let mut requirement = ResourceRequirement::new(format!("K{kind}"))
+            .with_candidates(ids(candidates).collect());
+        for skill in skills(set) {
+            requirement = requirement.with_skill(skill);
+        }
+        let id = resource_id(number);
+        let resource = self.resources.iter().find(|r| r.id == id);
+        requirement.accepts(resource.expect("inside the limits: on the board"))
     }
 
     /// An order without requirements goes as `schedule` routes it.
@@ -358,6 +390,22 @@ impl Side for Reference {
             (37, &[]) => self.list.clear(),
             (38, &[rounds, from, step, work]) => {
                 return format!("sum {}\n", self.measure(ms(rounds), ms(from), ms(step), ms(work)));
+            }
+            (40, &[count, ref held @ ..]) => {
+                let held: Vec<String> =
+                    held[..count as usize].iter().map(|&n| resource_id(n)).collect();
+                let d = self.activity.duration_on(held.iter().map(String::as_str));
+                return format!("duration {} {} {}\n", d.setup_ms, d.process_ms, d.teardown_ms);
+            }
+            (41, &[number, last, category, own]) => {
+                return format!("setup {}\n", self.setup(number, last, category, ms(own)));
+            }
+            (42, &[come_from, to]) => {
+                return format!("transport {}\n", self.transport(come_from, to));
+            }
+            (43, &[kind, candidates, set, number]) => {
+                let serves = self.serves(kind, candidates, set, number);
+                return if serves { "serves\n" } else { "no\n" }.to_string();
             }
             _ => unreachable!("the reader gives whole records of known kinds"),
         }

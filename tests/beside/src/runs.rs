@@ -1,6 +1,7 @@
 //! The runs: random streams of each family, the Rust against the two readings of 01 and against
 //! the Rattle programs.
 
+use crate::board_stream;
 use crate::compare::{differ, report, Stream};
 use crate::count::Counts;
 use crate::interval_set::{EMPTY, TOUCHING};
@@ -19,6 +20,7 @@ pub struct Plan {
     pub calendar_asks: u64,
     pub asks: u64,
     pub placings: u64,
+    pub board_asks: u64,
     /// One stream in so many is also run with what the stand-in keeps and with empty calendars.
     pub variants: u64,
     /// One stream in so many is also spoilt: records at and over the limits among the good ones.
@@ -31,6 +33,7 @@ pub const FULL: Plan = Plan {
     calendar_asks: 2_000_000,
     asks: 2_000_000,
     placings: 400_000,
+    board_asks: 5_000_000,
     variants: 4,
     spoilt: 4,
     boards: 4,
@@ -39,16 +42,18 @@ pub const SHORT: Plan = Plan {
     calendar_asks: 120_000,
     asks: 120_000,
     placings: 20_000,
+    board_asks: 100_000,
     variants: 8,
     spoilt: 4,
     boards: 16,
 };
 
-/// The families: kinds, program, diaries or calendar cases in one stream.
-const FAMILIES: [(Known, &str, usize); 3] = [
+/// The families: kinds, program, diaries, calendar cases or orders in one stream.
+const FAMILIES: [(Known, &str, usize); 4] = [
     (Known::Calendar, "calendar_runs", 100),
     (Known::Slot, "slot", 100),
     (Known::Offer, "offer", 0),
+    (Known::Board, "board_runs", 60),
 ];
 
 /// A stream inside 01's limits.
@@ -56,6 +61,7 @@ pub fn make(r: &mut Random, known: Known, size: Size, cases: usize) -> Vec<Recor
     match known {
         Known::Calendar => stream::calendars(r, size, cases),
         Known::Slot => stream::slot(r, size, cases),
+        Known::Board => board_stream::asks(r, cases),
         _ => {
             let orders = r.range(3, 12) as usize;
             stream::offer(r, size, orders)
@@ -89,10 +95,13 @@ struct Run<'a> {
     differences: u64,
 }
 
-/// Runs a plan. Gives whether there was no difference.
-pub fn run(plan: &Plan, seed: u64, programs: &Path) -> bool {
+/// Runs a plan, or one family of it. Gives whether there was no difference.
+pub fn run(plan: &Plan, only: Option<Known>, seed: u64, programs: &Path) -> bool {
     let mut differences = 0;
     for (family, (known, program, cases)) in FAMILIES.into_iter().enumerate() {
+        if only.is_some_and(|o| o != known) {
+            continue;
+        }
         let began = Instant::now();
         let path = programs.join(program);
         if !path.exists() {
@@ -128,6 +137,7 @@ impl Run<'_> {
         match self.known {
             Known::Calendar => self.counts.calendar_asks,
             Known::Slot => self.counts.asks,
+            Known::Board => self.counts.board_asks,
             _ => self.counts.placings,
         }
     }
@@ -136,6 +146,7 @@ impl Run<'_> {
         let wanted = match self.known {
             Known::Calendar => self.plan.calendar_asks,
             Known::Slot => self.plan.asks,
+            Known::Board => self.plan.board_asks,
             _ => self.plan.placings,
         };
         self.asked() >= wanted

@@ -37,7 +37,7 @@ fn stream(calendars: u64, windows: u64, rounds: u32) -> Vec<u8> {
 }
 
 /// Seconds that one run takes, and what it printed.
-fn timed(command: &mut Command, file: &Path) -> (f64, String) {
+pub fn timed(command: &mut Command, file: &Path) -> (f64, String) {
     let input = std::fs::File::open(file).expect("the stream just written");
     let began = Instant::now();
     let output =

@@ -76,7 +76,7 @@ pub fn spoil(r: &mut Random, records: &[Record], known: Known) -> Vec<u8> {
             let unknown: Vec<u8> = (0..=255).filter(|&k| k == 0 || !known.knows(k)).collect();
             bytes.push(r.pick(&unknown));
         }
-        2 if known == Known::Offer => {
+        2 if matches!(known, Known::Offer | Known::Board) => {
             // an order with a bad flag
             let mut order = vec![21; 39];
             order[26] = r.pick(&[0, 1, 2, 255]);

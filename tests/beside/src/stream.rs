@@ -190,11 +190,11 @@ fn calendar_ask(r: &mut Random, t: &Times, b: &mut Builder) {
     b.push(32, &[start, end]);
 }
 
-const SPEEDS: [f64; 14] =
+pub const SPEEDS: [f64; 14] =
     [0.25, 0.5, 0.5, 0.75, 1.0, 1.25, 1.5, 2.0, 2.0, 3.0, 4.0, 0.1 + 0.2, 1.0 / 3.0, 1.1];
 
 /// Any speed from 0.25 to 4.
-fn any_speed(r: &mut Random) -> f64 {
+pub fn any_speed(r: &mut Random) -> f64 {
     0.25 + 3.75 * ((r.next() >> 11) as f64 / (1u64 << 53) as f64)
 }
 

@@ -115,11 +115,16 @@ pub struct Resource {
 impl Resource {
     /// The setup for a category, `own` being the order's.
     pub fn setup(&self, category: u8, own: u64) -> u64 {
+        self.setup_behind(self.last, category, own)
+    }
+
+    /// The same behind any category, or where nothing was last.
+    pub fn setup_behind(&self, last: Option<u8>, category: u8, own: u64) -> u64 {
         let Some(matrix) = self.matrix.as_ref().filter(|_| !wrong(Wrong::OrderSetup)) else {
             return own;
         };
         let this = usize::from(category);
-        let Some(last) = self.last.map(usize::from) else {
+        let Some(last) = last.map(usize::from) else {
             if wrong(Wrong::FirstAsPair) {
                 return matrix.pairs[this][this].max(0) as u64;
             }

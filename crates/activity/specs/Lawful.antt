@@ -1,0 +1,33 @@
+-- What the functions behind the checks may take for granted of an order (`lawful-order`: an order that is not refused is lawful).
+use mathlib.Core.Path.{_≡_}
+use mathlib.Core.Bool.{true}
+use mathlib.Core.List.{List}
+use Prim.Native.Nat.{ℕ, _^_, _≤_}
+use Rattle.activity.specs.declared.ActivityDuration.{ActivityDuration}
+use Rattle.activity.specs.declared.ResourceTiming.{ResourceTiming}
+use Rattle.activity.specs.declared.ResourceTiming.the-variants.{Nothing, Speed, Duration}
+use Rattle.activity.specs.declared.Timed.{Timed}
+use Rattle.activity.specs.declared.timing.Fixed.{Fixed}
+use Rattle.activity.specs.declared.timing.Fixed.the-variants.{Unset, Own}
+use Rattle.activity.specs.Speeds.{isSpeed}
+use Rattle.activity.specs.Durations.{timingOf}
+
+-- each of the three is at most 2 ^ 36
+pub record Short (d : ActivityDuration) : Type 0 where
+  pub setup-range : d .setup ≤ 2 ^ 36
+  pub process-range : d .process ≤ 2 ^ 36
+  pub teardown-range : d .teardown ≤ 2 ^ 36
+
+abbrev pub LawfulTiming : ResourceTiming → Type 0
+LawfulTiming Nothing = Unit
+LawfulTiming (Speed s) = isSpeed s ≡ true
+LawfulTiming (Duration d) = Short d
+
+abbrev pub LawfulFixed : Fixed → Type 0
+LawfulFixed Unset = Unit
+LawfulFixed (Own d) = Short d
+
+-- the base is short, and the timing of every number is a speed that is taken, short durations, or nothing
+pub record Lawful (base : ActivityDuration) (timings : List Timed) : Type 0 where
+  pub base-short : Short base
+  pub each : (number : ℕ) → LawfulTiming (timingOf timings number)

@@ -1,0 +1,120 @@
+// Judging an order, its durations over the resources held, which resource serves, and from when: for the crates above.
+use crate::Activity;
+use crate::ActivityDuration;
+use crate::Release;
+use crate::ResourceRequirement;
+use crate::Timed;
+use crate::range::is_instant;
+use crate::range::is_short;
+use crate::range::quantities_right;
+use crate::range::timings_short;
+use crate::range::usages_right;
+use crate::speed::process_at;
+use crate::speed::speeds_right;
+use crate::timing::Fixed;
+use crate::timing::greater;
+use crate::timing::times;
+ghost use mathlib.Core.Path.{_≡_};
+ghost use Prim.Native.Nat.{ℕ, _≤_, _<_};
+ghost use lib.ListN.{getD, take};
+ghost use Rattle.activity.specs.Durations.{durationOn};
+ghost use Rattle.activity.specs.Serving.{serves as servesOf};
+ghost use Rattle.activity.specs.Ready.{readyOf};
+ghost use Rattle.activity.specs.Check.{activityRefusal};
+ghost use Rattle.activity.specs.Lawful.{Lawful};
+
+// The number with which the order is refused, 0 for none: 5 category, 1 ready, release or a duration, 6 requirements or their
+// quantities, 3 usage, 8 a speed. Each over the whole order before the next.
+pub fn refusal(activity: Activity, ready: u64) -> u8
+    ensures { λ r. ⌜ r ≡ activityRefusal activity ready ⌝ }
+{
+    if activity.category > 15 {
+        return 5;
+    }
+    if ready > 4398046511104 {
+        return 1;
+    }
+    let release = activity.release;
+    if !is_instant(release) {
+        return 1;
+    }
+    if !is_short(activity.duration) {
+        return 1;
+    }
+    let timings = activity.timings;
+    if !timings_short(timings) {
+        return 1;
+    }
+    let len = activity.len;
+    if len > 4 {
+        return 6;
+    }
+    let requirements = activity.requirements;
+    if !quantities_right(requirements, len) {
+        return 6;
+    }
+    if !usages_right(requirements, len) {
+        return 3;
+    }
+    if !speeds_right(timings) {
+        return 8;
+    }
+    0
+}
+
+// The durations over the first `count` resources held, in holding order (the Rust's `timed_duration`).
+pub fn duration_on(
+    base: ActivityDuration,
+    timings: [Timed; 16],
+    held: [u8; 8],
+    count: usize,
+) -> ActivityDuration
+    requires { ⌜ count ≤ 8 ⌝ }
+    requires { ⌜ ((i : ℕ) → i < count → getD held i 0 < 16) ⌝ }
+    requires { ⌜ Lawful base timings ⌝ }
+    ensures { λ r. ⌜ r ≡ durationOn base timings (take count held) ⌝ }
+{
+    let mut speed = 1.0;
+    let mut fixed = Fixed::Unset;
+    let mut i: usize = 0;
+    while i < count {
+        let number = held[i] as usize;
+        let timed = timings[number];
+        let timing = timed.timing;
+        speed = times(speed, timing);
+        fixed = greater(fixed, timing);
+        i += 1;
+    }
+    match fixed {
+        Fixed::Own(d) => d,
+        Fixed::Unset => ActivityDuration {
+            setup: base.setup,
+            process: process_at(base.process, speed),
+            teardown: base.teardown,
+        },
+    }
+}
+
+// Whether the resource of this number, type and skills serves the requirement.
+pub fn serves(requirement: ResourceRequirement, number: u8, kind: u8, skills: u64) -> bool
+    requires { ⌜ number < 16 ⌝ }
+    ensures { λ r. ⌜ r ≡ servesOf requirement number kind skills ⌝ }
+{
+    if requirement.skills & skills != requirement.skills {
+        return false;
+    }
+    if requirement.candidates == 0 {
+        return kind == requirement.kind;
+    }
+    (requirement.candidates >> number) & 1 == 1
+}
+
+// The later of ready and release.
+pub fn ready_of(release: Release, ready: u64) -> u64
+    ensures { λ r. ⌜ r ≡ readyOf release ready ⌝ }
+{
+    match release {
+        Release::Absent => ready,
+        Release::At(from) => if from > ready { from } else { ready },
+    }
+}

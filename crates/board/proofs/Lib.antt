@@ -1,0 +1,12 @@
+-- Laws on plain values, for the proofs of this crate and of those above it.
+pub mod Every
+pub mod Numbers
+pub mod Masks
+pub mod Seeing
+pub mod Facts
+pub mod Counting
+pub mod Setting
+pub mod Entering
+pub mod Replying
+pub mod Meaning
+pub mod Keeping

@@ -1,0 +1,9 @@
+-- Document 01 from categories on: setups and transport, the board paragraph of 'Placing', the board's rules and the replies of 'Board
+-- entries', in this order.
+pub mod Resources
+pub mod Setups
+pub mod Valid
+pub mod Transport
+pub mod Places
+pub mod Enter
+pub mod Runs

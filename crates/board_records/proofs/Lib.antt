@@ -1,0 +1,6 @@
+-- Laws on plain values, for the proofs of this crate.
+pub mod Lengths
+pub mod Bits
+pub mod Ordering
+pub mod Doing
+pub mod Asking

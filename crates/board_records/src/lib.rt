@@ -1,0 +1,250 @@
+// What a record of a stream does to a diary in hand, an order in hand and a board (docs/RECORDS.md, kinds 1 to 4 and 16 to 24).
+use activity::Activity;
+use board::Board;
+use board::Entered;
+use records::Line;
+use records::number;
+use timeline::ResourceTimeline;
+
+pub mod asks;
+mod order;
+
+ghost use mathlib.Core.Path.{_≡_};
+ghost use Prim.Native.Nat.{_+_, _≤_, _<_};
+ghost use lib.ListN.{length};
+ghost use Rattle.records.specs.Lines.{lineOf};
+ghost use Rattle.board_records.specs.Desk.{emptyDesk};
+ghost use Rattle.board_records.specs.Bodies.{fixedLen, lenOf, whole, bodyLen};
+ghost use Rattle.board_records.specs.Records.{signed as signedOf, refusalOf, diaryDoes, addDoes, entryReply, stepReply};
+
+// What is in hand: a diary, an order, a board.
+pub struct Desk {
+    pub timeline: ResourceTimeline,
+    pub activity: Activity,
+    pub board: Board,
+}
+
+// What a record does: what is in hand afterwards, and the refusal's number, 0 for none. 9 ends the stream.
+pub struct Stepped {
+    pub desk: Desk,
+    pub refusal: u8,
+}
+
+impl Desk {
+    // An empty diary of capacity 1, an order of nothing, an empty board.
+    pub fn new() -> Desk
+        ensures { λ r. ⌜ r ≡ emptyDesk ⌝ }
+    {
+        let timeline = ResourceTimeline::new(1);
+        let activity = order::empty_order();
+        let board = Board::new();
+        Desk {
+            timeline: timeline,
+            activity: activity,
+            board: board,
+        }
+    }
+}
+
+fn diary_len(kind: u8) -> usize
+    requires { ⌜ kind ≤ 4 ⌝ }
+    ensures { λ r. ⌜ r ≡ fixedLen kind ⌝ }
+{
+    match kind {
+        1 => 4,
+        2 | 3 => 16,
+        4 => 20,
+        _ => 0,
+    }
+}
+
+fn board_len(kind: u8) -> usize
+    requires { ⌜ (4 < kind) × (kind ≤ 20) ⌝ }
+    ensures { λ r. ⌜ r ≡ fixedLen kind ⌝ }
+{
+    match kind {
+        17 => 17,
+        18 => 11,
+        19 | 20 => 10,
+        _ => 0,
+    }
+}
+
+fn order_len(kind: u8) -> usize
+    requires { ⌜ 20 < kind ⌝ }
+    ensures { λ r. ⌜ r ≡ fixedLen kind ⌝ }
+{
+    match kind {
+        21 => 38,
+        22 => 19,
+        23 => 9,
+        24 => 25,
+        _ => 0,
+    }
+}
+
+// How many bytes the body of a kind has, 0 for kind 16, whose bodies differ, and for an unknown kind.
+fn fixed_len(kind: u8) -> usize
+    ensures { λ r. ⌜ r ≡ fixedLen kind ⌝ }
+{
+    if kind <= 4 {
+        return diary_len(kind);
+    }
+    if kind <= 20 {
+        return board_len(kind);
+    }
+    order_len(kind)
+}
+
+fn wide(b: u8) -> usize
+    ensures { λ r. ⌜ (r ≡ b) × (r < 256) ⌝ }
+{
+    b as usize
+}
+
+// A length, or 0 where fewer bytes are left.
+fn whole_of(rest: usize, len: usize) -> usize
+    ensures { λ r. ⌜ r ≡ whole rest len ⌝ }
+{
+    if rest < len { 0 } else { len }
+}
+
+// How many bytes the body has that begins at `at`, `len` being the end of the input: 0 for an unknown kind or a cut body.
+pub fn body_len(kind: u8, bytes: &[u8], at: usize, len: usize) -> usize
+    requires { ⌜ (at ≤ len) × (len ≤ length (now bytes)) ⌝ }
+    ensures { λ r. ⌜ r ≡ bodyLen kind (now (bytes .entry)) at len ⌝ }
+{
+    let rest = len - at;
+    if kind != 16 {
+        return whole_of(rest, fixed_len(kind));
+    }
+    if rest < 11 {
+        return 0;
+    }
+    whole_of(rest, 11 + wide(bytes[at + 10]))
+}
+
+// A signed number by its 64 bits.
+fn signed(bits: u64) -> i64
+    ensures { λ r. ⌜ r ≡ signedOf bits ⌝ }
+{
+    if bits < 9223372036854775808 {
+        return bits as i64;
+    }
+    -1 - (u64::MAX - bits) as i64
+}
+
+fn refusal_of(line: Line) -> u8
+    ensures { λ r. ⌜ r ≡ refusalOf (lineOf line) ⌝ }
+{
+    match line {
+        Line::Nothing => 0,
+        Line::Fit(s, e) => 0,
+        Line::None => 0,
+        Line::Refused(n) => n,
+    }
+}
+
+// Kinds 1 to 4: as in `slot`, on the diary in hand.
+fn on_diary(desk: Desk, kind: u8, bytes: &[u8], at: usize) -> Stepped
+    requires { ⌜ (1 ≤ kind) × (kind ≤ 4) × (at + fixedLen kind ≤ length (now bytes)) ⌝ }
+    ensures { λ r. ⌜ r ≡ diaryDoes desk kind (now (bytes .entry)) at ⌝ }
+{
+    let s = records::step(desk.timeline, kind, bytes, at);
+    let t = s.timeline;
+    let line = s.line;
+    let refusal = refusal_of(line);
+    let mut d = desk;
+    d.timeline = t;
+    Stepped {
+        desk: d,
+        refusal: refusal,
+    }
+}
+
+// Kind 16: the diary in hand goes to the board, and an empty one is in hand.
+fn add(desk: Desk, bytes: &[u8], at: usize, count: usize) -> Stepped
+    requires { ⌜ at + 11 + count ≤ length (now bytes) ⌝ }
+    ensures { λ r. ⌜ r ≡ addDoes desk (now (bytes .entry)) at count ⌝ }
+{
+    let skills = number(bytes, at + 2, 8);
+    let e = desk.board.add_resource(
+        bytes[at],
+        bytes[at + 1],
+        skills,
+        &bytes[at + 11..at + 11 + count],
+        desk.timeline,
+    );
+    if e.refusal != 0 {
+        return Stepped {
+            desk: desk,
+            refusal: e.refusal,
+        };
+    }
+    let b = e.board;
+    let new = ResourceTimeline::new(1);
+    let mut d = desk;
+    d.timeline = new;
+    d.board = b;
+    Stepped {
+        desk: d,
+        refusal: 0,
+    }
+}
+
+// Kinds 17 to 20: an entry of the board.
+fn entry(board: Board, kind: u8, bytes: &[u8], at: usize) -> Entered
+    requires { ⌜ (17 ≤ kind) × (kind ≤ 20) × (at + fixedLen kind ≤ length (now bytes)) ⌝ }
+    ensures { λ r. ⌜ r ≡ entryReply board kind (now (bytes .entry)) at ⌝ }
+{
+    let first = bytes[at];
+    let second = bytes[at + 1];
+    if kind == 17 {
+        let default = signed(number(bytes, at + 1, 8));
+        let initial = signed(number(bytes, at + 9, 8));
+        return board.set_matrix(first, default, initial);
+    }
+    if kind == 18 {
+        let ms = signed(number(bytes, at + 3, 8));
+        return board.set_transition(first, second, bytes[at + 2], ms);
+    }
+    let ms = number(bytes, at + 2, 8);
+    if kind == 19 {
+        return board.set_initial(first, second, signed(ms));
+    }
+    board.set_transport(first, second, ms)
+}
+
+// What one record of a known kind does, its body beginning at `at`. A refused record changes nothing.
+pub fn step(desk: Desk, kind: u8, bytes: &[u8], at: usize) -> Stepped
+    requires { ⌜ (0 < lenOf kind (now bytes) at) × (at + lenOf kind (now bytes) at ≤ length (now bytes)) ⌝ }
+    ensures { λ r. ⌜ r ≡ stepReply desk kind (now (bytes .entry)) at ⌝ }
+{
+    if kind <= 4 {
+        return on_diary(desk, kind, bytes, at);
+    }
+    if kind == 16 {
+        return add(desk, bytes, at, wide(bytes[at + 10]));
+    }
+    if kind <= 20 {
+        let e = entry(desk.board, kind, bytes, at);
+        let b = e.board;
+        let mut d = desk;
+        d.board = b;
+        return Stepped {
+            desk: d,
+            refusal: e.refusal,
+        };
+    }
+    if kind == 21 {
+        return order::new_order(desk, bytes, at);
+    }
+    let o = order::part(desk.activity, kind, bytes, at);
+    let a = o.activity;
+    let mut d = desk;
+    d.activity = a;
+    Stepped {
+        desk: d,
+        refusal: o.refusal,
+    }
+}

@@ -1,0 +1,78 @@
+-- One diary more: free on all, calm on all, and the calendars of all.
+use mathlib.Core.Path.{_≡_, refl, sym, ap, _∙_, subst}
+use mathlib.Core.Bool.{Bool, true, false, _&&_, cond}
+use mathlib.Core.List.{List, [], _∷_, _++_, map}
+use Prim.Native.Nat.{ℕ, zero, suc, _+_, _-_, _≤_, _<_}
+use native.Mathlib.Omega.{arith}
+use lib.ListN.{getD, length, take}
+use Rattle.calendar.specs.declared.Calendar.{Calendar}
+use Rattle.calendar.specs.Basics.{and-true, and-false, and-assoc}
+use Rattle.joint.specs.Layout.{blank}
+use Rattle.timeline.specs.declared.ResourceTimeline.{ResourceTimeline}
+use Rattle.timeline.specs.Earliest.{freeOn}
+use Rattle.timeline.proofs.Stepping.{Still}
+use Rattle.board.specs.Resources.{noDiary}
+use Rattle.scheduler.specs.Alone.{Share}
+use Rattle.scheduler.specs.Fitting.{calendarOf, allFree}
+use Rattle.scheduler.specs.Shares.{sharesTo}
+use Rattle.scheduler.specs.Lists.{Each, each-end, each-on, each-append}
+use Rattle.scheduler.specs.Together.{Calm}
+
+abbrev pub shareAt : List ResourceTimeline → List ℕ → ℕ → Share
+shareAt ts us i = record { timeline = getD ts i noDiary; units = getD us i 0 }
+
+pub shares-next : (ts : List ResourceTimeline) (us : List ℕ) (i : ℕ) → sharesTo ts us (i + 1) ≡ sharesTo ts us i ++ (shareAt ts us i ∷ [])
+unfolding sharesTo
+shares-next ts us i =
+    let z : i + 1 ≡ suc i = omega arith in
+    rw z refl
+
+free-more : (xs : List Share) (x : Share) (s e : ℕ) → allFree (xs ++ (x ∷ [])) s e ≡ allFree xs s e && freeOn (x .timeline) (x .units) s e
+unfolding allFree
+free-more [] x s e = and-true (freeOn (x .timeline) (x .units) s e)
+free-more (y ∷ xs) x s e = ap (λ (p : Bool). freeOn (y .timeline) (y .units) s e && p) (free-more xs x s e) ∙ sym (and-assoc (freeOn (y .timeline) (y .units) s e) (allFree xs s e) (freeOn (x .timeline) (x .units) s e))
+
+module _ (ts : List ResourceTimeline) (us : List ℕ) (s e : ℕ) where
+  next : (i : ℕ) → allFree (sharesTo ts us (i + 1)) s e ≡ allFree (sharesTo ts us i) s e && freeOn (getD ts i noDiary) (getD us i 0) s e
+  next i = ap (λ (xs : List Share). allFree xs s e) (shares-next ts us i) ∙ free-more (sharesTo ts us i) (shareAt ts us i) s e
+
+  pub free-on : (i : ℕ) → allFree (sharesTo ts us i) s e ≡ true → freeOn (getD ts i noDiary) (getD us i 0) s e ≡ true → allFree (sharesTo ts us (i + 1)) s e ≡ true
+  free-on i a f = next i ∙ rw (a, f) refl
+
+  stays : (i k : ℕ) → allFree (sharesTo ts us i) s e ≡ false → allFree (sharesTo ts us (i + k)) s e ≡ false
+  stays i zero a =
+      let z : i + 0 ≡ i = omega arith in
+      rw z a
+  stays i (suc k) a =
+      let z : i + suc k ≡ i + k + 1 = omega arith in
+      rw z (next (i + k) ∙ rw (stays i k a) refl)
+
+  pub free-off : (i n : ℕ) → i < n → freeOn (getD ts i noDiary) (getD us i 0) s e ≡ false → allFree (sharesTo ts us n) s e ≡ false
+  free-off i n l f =
+      let z : i + 1 + (n - (i + 1)) ≡ n = omega arith in
+      rw z at (stays (i + 1) (n - (i + 1)) (next i ∙ rw f (and-false (allFree (sharesTo ts us i) s e))))
+
+-- calm on one more
+pub calm-on : (ts : List ResourceTimeline) (us : List ℕ) (i y : ℕ) → Calm y (sharesTo ts us i) → Still (getD ts i noDiary) y → Calm y (sharesTo ts us (i + 1))
+calm-on ts us i y c s = subst (Calm y) (sym (shares-next ts us i)) (each-append (λ x. Still (x .timeline) y) (sharesTo ts us i) (shareAt ts us i ∷ []) c (each-on s each-end))
+
+pub calm-none : (ts : List ResourceTimeline) (us : List ℕ) (y : ℕ) → Calm y (sharesTo ts us 0)
+unfolding sharesTo
+calm-none ts us y = each-end
+
+take-next : (cs : List Calendar) (n : ℕ) → n < length cs → take (suc n) cs ≡ take n cs ++ (getD cs n blank ∷ [])
+take-next [] n l = absurd (omega arith)
+take-next (c ∷ cs) zero l = refl
+take-next (c ∷ cs) (suc n) l = ap {B = List Calendar} (λ r. c ∷ r) (take-next cs n (omega arith))
+
+map-snoc : (xs : List Share) (x : Share) → map calendarOf (xs ++ (x ∷ [])) ≡ map calendarOf xs ++ (calendarOf x ∷ [])
+map-snoc [] x = refl
+map-snoc (y ∷ xs) x = ap {B = List Calendar} (λ r. calendarOf y ∷ r) (map-snoc xs x)
+
+-- calendars that are the diaries', cell by cell, are those of the shares
+pub calendars-are : (cs : List Calendar) (ts : List ResourceTimeline) (us : List ℕ) (n : ℕ) → n ≤ length cs → ((k : ℕ) → k < n → getD cs k blank ≡ getD ts k noDiary .calendar) → take n cs ≡ map calendarOf (sharesTo ts us n)
+unfolding sharesTo
+calendars-are cs ts us zero l f = refl
+calendars-are cs ts us (suc n) l f =
+    take-next cs n (omega arith)
+    ∙ rw (calendars-are cs ts us n (omega arith) (λ k h. f k (omega arith)), f n (omega arith)) (sym (map-snoc (sharesTo ts us n) (shareAt ts us n)))

@@ -1,0 +1,3 @@
+-- The proofs of fitting.
+pub mod Gathering
+pub mod Resuming

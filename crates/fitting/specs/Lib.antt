@@ -1,0 +1,2 @@
+-- Resumable work on several diaries together.
+pub mod Jointly

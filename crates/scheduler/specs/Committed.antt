@@ -1,0 +1,273 @@
+-- What a commitment leaves as it is, and that a committed board keeps the rules.
+use mathlib.Core.Path.{_≡_, refl, sym, ap, _∙_, subst}
+use mathlib.Core.Bool.{Bool, true, false, not, _&&_, _||_, cond}
+use mathlib.Core.List.{List, [], _∷_}
+use mathlib.Core.Logic.{_⊎_, inl, inr, ⊎-elim}
+use Prim.Native.Nat.{ℕ, zero, suc, _+_, _^_, _≤_, _<_}
+use native.Mathlib.Omega.{arith}
+use lib.ListN.{getD, set, length, length-set}
+use lib.Dec.{leb, ltb, eqb}
+use lib.Seq.{getD-set-same, getD-set-other}
+use borrow.Author.Tests.{leb-true, ltb-false, leb-false, le-leb, eqb-true, eqb-false, eq-eqb, not-false}
+use Rattle.calendar.specs.Basics.{and-split, and-join, not-both, lt-or-ge, same-or-not}
+use Rattle.calendar.specs.Search.{Found, nothing, at}
+use Rattle.timeline.specs.declared.ResourceTimeline.{ResourceTimeline}
+use Rattle.timeline.specs.Bookings.{bookings}
+use Rattle.timeline.specs.Valid as timeline
+use Rattle.timeline.specs.Book.{insertBooking, diary}
+use Rattle.timeline.proofs.Rules as timeline-rules
+use Rattle.timeline.proofs.Rows.{count}
+use Rattle.timeline.proofs.Keeping.{booked-keeps, length-inserted}
+use Rattle.activity.specs.Check.{every}
+use Rattle.board.specs.declared.LastCategory.{LastCategory}
+use Rattle.board.specs.declared.LastCategory.the-variants.{Nothing, Category}
+use Rattle.board.specs.declared.Resource.{Resource}
+use Rattle.board.specs.declared.Board.{Board}
+use Rattle.board.specs.Resources.{noResource, resourceAt, numberAt, lookupTo, lookup, isAt, onBoard}
+use Rattle.board.specs.Valid as board
+use Rattle.board.specs.Enter.{entered, withResource, changed}
+use Rattle.board.proofs.Facts.{rules}
+use Rattle.board.proofs.Meaning.{lookup-means, resource-rules, resource-of}
+use Rattle.board.proofs.Keeping.{valid-with}
+use Rattle.scheduler.specs.Alone.{resourceIn, diaryOf}
+use Rattle.scheduler.specs.Committing.{Line, entriesOn, linesOf, linesRefusal, commitRefusal, withBooking, lastAfter, booked, bookAll, commitReply}
+use Rattle.scheduler.specs.Lists.{Each, each-end, each-on, each-map}
+use Rattle.scheduler.specs.Lending.{least-same}
+use Rattle.scheduler.specs.Ruled.{on-place, on-valid}
+use Rattle.scheduler.specs.Tests.{or-left, or-right, unrefused}
+
+module _ (start end category : ℕ) where
+  -- a resource that an entry does not name stays as it is
+  step-same : (b : Board) (l : Line) (i : ℕ) → (numberAt b i ≡ l .number → ⊥) → resourceAt (changed b (lookup b (l .number)) (booked start end category l)) i ≡ resourceAt b i
+  unfolding changed
+  step-same b l i ne = go (lookup b (l .number)) refl
+    where
+      go : (f : Found) → lookup b (l .number) ≡ f → resourceAt (changed b f (booked start end category l)) i ≡ resourceAt b i
+      go nothing e = refl
+      go (at j) e = getD-set-other (b .resources) j i (booked start end category l (resourceAt b j)) noResource (λ z. ne (rw z (lookup-means b (l .number) j e .1)))
+
+  -- the numbers, the length and the transport stay
+  step-number : (b : Board) (l : Line) (i : ℕ) → i < length (b .resources) → numberAt (changed b (lookup b (l .number)) (booked start end category l)) i ≡ numberAt b i
+  unfolding changed booked
+  step-number b l i h = go (lookup b (l .number))
+    where
+      go : (f : Found) → numberAt (changed b f (booked start end category l)) i ≡ numberAt b i
+      go nothing = refl
+      go (at j) =
+          ⊎-elim
+          (λ (e : j ≡ i). rw (← e) (ap (λ (x : Resource). x .number) (getD-set-same (b .resources) j (booked start end category l (resourceAt b j)) noResource (rw e h))))
+          (λ (e : i ≡ j → ⊥). ap (λ (x : Resource). x .number) (getD-set-other (b .resources) j i (booked start end category l (resourceAt b j)) noResource e))
+          (same-or-not j i)
+
+  step-len : (b : Board) (l : Line) (f : Found) → changed b f (booked start end category l) .len ≡ b .len
+  unfolding changed
+  step-len b l nothing = refl
+  step-len b l (at j) = refl
+
+  step-transport : (b : Board) (l : Line) (f : Found) → changed b f (booked start end category l) .transport ≡ b .transport
+  unfolding changed
+  step-transport b l nothing = refl
+  step-transport b l (at j) = refl
+
+  step-long : (b : Board) (l : Line) (f : Found) → length (changed b f (booked start end category l) .resources) ≡ length (b .resources)
+  unfolding changed
+  step-long b l nothing = refl
+  step-long b l (at j) = length-set (b .resources) j (booked start end category l (resourceAt b j))
+
+  -- no entry on it: nothing has changed there
+  pub others-same : (ls : List Line) (b : Board) (i : ℕ) → i < length (b .resources) → entriesOn (numberAt b i) ls ≡ 0 → resourceAt (bookAll start end category ls b) i ≡ resourceAt b i
+  unfolding bookAll entriesOn
+  others-same [] b i h e = refl
+  others-same (l ∷ ls) b i h e = go (eqb (l .number) (numberAt b i)) refl e (others-same ls (changed b (lookup b (l .number)) (booked start end category l)) i)
+    where
+      b′ : Board
+      b′ = changed b (lookup b (l .number)) (booked start end category l)
+
+      go : (q : Bool) → eqb (l .number) (numberAt b i) ≡ q → cond q 1 0 + entriesOn (numberAt b i) ls ≡ 0
+          → (i < length (b′ .resources) → entriesOn (numberAt b′ i) ls ≡ 0 → resourceAt (bookAll start end category ls b′) i ≡ resourceAt b′ i) → resourceAt (bookAll start end category ls b′) i ≡ resourceAt b i
+      go true f g again = absurd (omega arith)
+      go false f g again =
+          let ne = eqb-false (l .number) (numberAt b i) f in
+          let z : entriesOn (numberAt b i) ls ≡ 0 = omega arith in
+          again (rw (step-long b l (lookup b (l .number))) h) (ap (λ (n : ℕ). entriesOn n ls) (step-number b l i h) ∙ z) ∙ step-same b l i (λ k. ne (sym k))
+
+  pub frame-len : (ls : List Line) (b : Board) → bookAll start end category ls b .len ≡ b .len
+  unfolding bookAll
+  frame-len [] b = refl
+  frame-len (l ∷ ls) b = frame-len ls (changed b (lookup b (l .number)) (booked start end category l)) ∙ step-len b l (lookup b (l .number))
+
+  pub frame-transport : (ls : List Line) (b : Board) → bookAll start end category ls b .transport ≡ b .transport
+  unfolding bookAll
+  frame-transport [] b = refl
+  frame-transport (l ∷ ls) b = frame-transport ls (changed b (lookup b (l .number)) (booked start end category l)) ∙ step-transport b l (lookup b (l .number))
+
+  pub frame-long : (ls : List Line) (b : Board) → length (bookAll start end category ls b .resources) ≡ length (b .resources)
+  unfolding bookAll
+  frame-long [] b = refl
+  frame-long (l ∷ ls) b = frame-long ls (changed b (lookup b (l .number)) (booked start end category l)) ∙ step-long b l (lookup b (l .number))
+
+placeIn : Found → ℕ
+placeIn nothing = 0
+placeIn (at i) = i
+
+-- a booking makes a diary longer by one
+longer : (t : ResourceTimeline) (start end u : ℕ) → withBooking t start end u .len ≡ t .len + 1
+unfolding withBooking diary
+longer t start end u = omega (arith, length-inserted (record { start = start; end = end; units = u }) (bookings t), count t)
+
+-- what is booked is in range
+pub record Bookable (start end category : ℕ) : Type 0 where
+  pub order : start < end
+  pub range : end ≤ 2 ^ 42
+  pub category-range : category ≤ 15
+
+-- an entry for a resource on the board, with units in range
+pub record Right (b : Board) (l : Line) : Type 0 where
+  pub on : onBoard b (l .number) ≡ true
+  pub some : 1 ≤ l .units
+  pub few : l .units ≤ 10000
+
+-- every diary has places for all its entries
+abbrev pub Room : Board → List Line → Type 0
+Room b ls = (n : ℕ) → onBoard b n ≡ true → diaryOf b n .len + entriesOn n ls ≤ 64
+
+last-right : (r : Resource) (companion : Bool) (category : ℕ) → category ≤ 15 → board.lastRight (r .last) ≡ true → board.lastRight (lastAfter r companion category) ≡ true
+unfolding lastAfter board.lastRight
+last-right r companion category l h = go (r .matrix .present && not companion)
+  where
+    go : (q : Bool) → board.lastRight (cond q (Category category) (r .last)) ≡ true
+    go true = le-leb category 15 l
+    go false = h
+
+module _ (start end category : ℕ) (w : Bookable start end category) where
+  booked-right : (l : Line) (r : Resource) → 1 ≤ l .units → l .units ≤ 10000 → board.resourceRight r ≡ true → r .timeline .len < 64 → board.resourceRight (booked start end category l r) ≡ true
+  unfolding booked board.resourceRight withBooking
+  booked-right l r some few h room =
+      let k = resource-rules r h in
+      let t = booked-keeps (r .timeline) (record { start = start; end = end; units = l .units }) (k .timeline) room (record { order = w .order; range = w .range; some = some; few = few; sorted = omega arith }) in
+      let h1 = and-split (leb (r .number) 15) _ h in
+      let h2 = and-split (board.companionsRight (r .companions) (r .count)) _ (h1 .1) in
+      and-join _ _ (h1 .0) (and-join _ _ (h2 .0) (and-join _ _ t (and-join _ _ (k .matrix) (last-right r (l .companion) category (w .category-range) (k .last)))))
+
+  module _ (b : Board) (long : length (b .resources) ≡ 16) (v : board.valid b ≡ true) (l : Line) (p : Right b l) where
+    abbrev after : Board
+    after = changed b (lookup b (l .number)) (booked start end category l)
+
+    -- a number keeps its place
+    lookup-after : (n : ℕ) → lookup after n ≡ lookup b n
+    unfolding lookupTo
+    lookup-after n =
+        ap (λ (k : ℕ). lookupTo after k n) (step-len start end category b l (lookup b (l .number)))
+        ∙ least-same (λ m. eqb (numberAt after m) n) (λ m. eqb (numberAt b m) n) 0 (b .len) (λ m i j. ap (λ (x : ℕ). eqb x n) (step-number start end category b l m (omega (arith, rules b v .few))))
+
+    place : (i : ℕ) × (lookup b (l .number) ≡ at i) × (i < b .len)
+    place = on-place b v (l .number) (p .on)
+
+    here : resourceAt after (place .0) ≡ booked start end category l (resourceAt b (place .0))
+    unfolding changed
+    here = rw (place .1) (getD-set-same (b .resources) (place .0) (booked start end category l (resourceAt b (place .0))) noResource (omega (arith, place .2, rules b v .few)))
+
+    -- the diary named has one booking more, the others are as they were
+    diary-after : (n : ℕ) → onBoard b n ≡ true → diaryOf after n .len ≡ diaryOf b n .len + cond (eqb (l .number) n) 1 0
+    unfolding resourceIn placeIn booked
+    diary-after n o =
+        let q = on-place b v n o in
+        let e : lookup after n ≡ at (q .0) = lookup-after n ∙ q .1 in
+        ap (λ (f : Found). resourceIn after f .timeline .len) e ∙ go (q .0) (q .1) (q .2) (eqb (l .number) n) refl ∙ sym (ap (λ (f : Found). resourceIn b f .timeline .len + cond (eqb (l .number) n) 1 0) (q .1))
+      where
+        go : (j : ℕ) → lookup b n ≡ at j → j < b .len → (k : Bool) → eqb (l .number) n ≡ k → resourceAt after j .timeline .len ≡ resourceAt b j .timeline .len + cond k 1 0
+        go j e m true h =
+            let z : l .number ≡ n = eqb-true (l .number) n h in
+            let y : place .0 ≡ j = ap placeIn (sym (place .1) ∙ ap (lookup b) z ∙ e) in
+            rw (← y) (ap (λ (x : Resource). x .timeline .len) here ∙ longer (resourceAt b (place .0) .timeline) start end (l .units))
+        go j e m false h =
+            let ne = eqb-false (l .number) n h in
+            ap (λ (x : Resource). x .timeline .len) (step-same start end category b l j (λ z. ne (sym z ∙ lookup-means b n j e .1))) ∙ omega arith
+
+    after-keeps : diaryOf b (l .number) .len < 64 → board.valid after ≡ true
+    unfolding changed resourceIn booked
+    after-keeps room =
+        let i = place .0 in
+        let r = resourceAt b i in
+        let t : r .timeline .len < 64 = subst (λ (f : Found). resourceIn b f .timeline .len < 64) (place .1) room in
+        subst (λ (f : Found). board.valid (changed b f (booked start end category l)) ≡ true) (sym (place .1))
+        (valid-with b i (booked start end category l r) long v (place .2) (booked-right l r (p .some) (p .few) (rules b v .right i (place .2)) t) refl)
+
+    right-after : (k : Line) → Right b k → Right after k
+    unfolding isAt
+    right-after k r = record { on = ap isAt (lookup-after (k .number)) ∙ r .on; some = r .some; few = r .few }
+
+    room-after : (ls : List Line) → Room b (l ∷ ls) → Room after ls
+    unfolding entriesOn isAt
+    room-after ls f n o =
+        let q : onBoard b n ≡ true = ap isAt (sym (lookup-after n)) ∙ o in
+        omega (arith, f n q, diary-after n q)
+
+  all-keep : (ls : List Line) (b : Board) → length (b .resources) ≡ 16 → board.valid b ≡ true → Each (Right b) ls → Room b ls → board.valid (bookAll start end category ls b) ≡ true
+  unfolding bookAll entriesOn
+  all-keep [] b long v each-end f = v
+  all-keep (l ∷ ls) b long v (each-on p ps) f =
+      let e : eqb (l .number) (l .number) ≡ true = eq-eqb (l .number) (l .number) refl in
+      let m : diaryOf b (l .number) .len + (cond (eqb (l .number) (l .number)) 1 0 + entriesOn (l .number) ls) ≤ 64 = f (l .number) (p .on) in
+      let g : diaryOf b (l .number) .len + (1 + entriesOn (l .number) ls) ≤ 64 = rw e at m in
+      all-keep ls (changed b (lookup b (l .number)) (booked start end category l)) (step-long start end category b l (lookup b (l .number)) ∙ long) (after-keeps b long v l p (omega arith))
+      (each-map (Right b) (Right (changed b (lookup b (l .number)) (booked start end category l))) ls (right-after b long v l p) ps)
+      (room-after b long v l p ls f)
+
+-- the entries passed each check
+passed : (b : Board) (ls : List Line) → every (λ l. onBoard b (l .number)) ls ≡ true → every (λ l. leb 1 (l .units) && leb (l .units) 10000) ls ≡ true → Each (Right b) ls
+unfolding every
+passed b [] e f = each-end
+passed b (l ∷ ls) e f =
+    let x = and-split (onBoard b (l .number)) (every (λ l. onBoard b (l .number)) ls) e in
+    let y = and-split (leb 1 (l .units) && leb (l .units) 10000) (every (λ l. leb 1 (l .units) && leb (l .units) 10000) ls) f in
+    let z = and-split (leb 1 (l .units)) (leb (l .units) 10000) (y .0) in
+    each-on (record { on = x .0; some = leb-true 1 (l .units) (z .0); few = leb-true (l .units) 10000 (z .1) }) (passed b ls (x .1) (y .1))
+
+named : (P : ℕ → Bool) (n : ℕ) (ls : List Line) → every (λ l. P (l .number)) ls ≡ true → 1 ≤ entriesOn n ls → P n ≡ true
+unfolding every entriesOn
+named P n [] e h = absurd (omega arith)
+named P n (l ∷ ls) e h =
+    let w = and-split (P (l .number)) (every (λ l. P (l .number)) ls) e in
+    go (eqb (l .number) n) refl h (w .0) (named P n ls (w .1))
+  where
+    go : (q : Bool) → eqb (l .number) n ≡ q → 1 ≤ cond q 1 0 + entriesOn n ls → P (l .number) ≡ true → (1 ≤ entriesOn n ls → P n ≡ true) → P n ≡ true
+    go true f g p rest = ap P (sym (eqb-true (l .number) n f)) ∙ p
+    go false f g p rest = rest (omega arith)
+
+room-passed : (b : Board) (ls : List Line) → board.valid b ≡ true → every (λ l. leb (diaryOf b (l .number) .len + entriesOn (l .number) ls) 64) ls ≡ true → Room b ls
+room-passed b ls v e n o =
+    ⊎-elim
+    (λ (h : 0 < entriesOn n ls). leb-true (diaryOf b n .len + entriesOn n ls) 64 (named (λ m. leb (diaryOf b m .len + entriesOn m ls) 64) n ls e (omega arith)))
+    (λ (h : entriesOn n ls ≤ 0). omega (arith, timeline-rules.rules (diaryOf b n) (on-valid b v n o) .room))
+    (lt-or-ge 0 (entriesOn n ls))
+
+-- a committed board keeps the rules
+pub commit-keeps : (b : Board) (slate : List (List ℕ)) (count start end category : ℕ) → length (b .resources) ≡ 16 → board.valid b ≡ true → board.valid (commitReply b slate count start end category .board) ≡ true
+unfolding commitReply commitRefusal linesRefusal entered linesOf bookAll
+commit-keeps b slate count start end category long v = go (commitRefusal b slate count start end category) refl
+  where
+    ls : List Line
+    ls = linesOf count slate
+
+    booking : linesRefusal b ls start end category ≡ 0 → board.valid (bookAll start end category ls b) ≡ true
+    booking e =
+        let x0 = unrefused (not (every (λ l. onBoard b (l .number)) ls) || ltb 15 category) 4 _ e in
+        let x1 = unrefused (ltb (2 ^ 42) start || ltb (2 ^ 42) end) 0 _ (x0 .1) in
+        let x2 = unrefused (leb end start) 1 _ (x1 .1) in
+        let x3 = unrefused (not (every (λ l. leb 1 (l .units) && leb (l .units) 10000) ls)) 2 _ (x2 .1) in
+        let x4 = unrefused (not (every (λ l. leb (diaryOf b (l .number) .len + entriesOn (l .number) ls) 64) ls)) 3 0 (x3 .1) in
+        let on = not-false _ (or-left (not (every (λ l. onBoard b (l .number)) ls)) (ltb 15 category) (x0 .0)) in
+        let c = ltb-false 15 category (or-right (not (every (λ l. onBoard b (l .number)) ls)) (ltb 15 category) (x0 .0)) in
+        let m = ltb-false (2 ^ 42) end (or-right (ltb (2 ^ 42) start) (ltb (2 ^ 42) end) (x1 .0)) in
+        all-keep start end category (record { order = leb-false end start (x2 .0); range = m; category-range = c }) ls b long v
+        (passed b ls on (not-false _ (x3 .0)))
+        (room-passed b ls v (not-false _ (x4 .0)))
+
+    counted : (q : Bool) → eqb count 0 ≡ q → cond q 0 (cond (ltb (length slate) count) 7 (linesRefusal b ls start end category)) ≡ 0 → board.valid (bookAll start end category ls b) ≡ true
+    counted true f e = rw (eqb-true count 0 f) v
+    counted false f e = booking (unrefused (ltb (length slate) count) 6 (linesRefusal b ls start end category) e .1)
+
+    go : (n : ℕ) → commitRefusal b slate count start end category ≡ n → board.valid (entered n b (bookAll start end category ls b) .board) ≡ true
+    go zero e = counted (eqb count 0) refl (unrefused (not (board.valid b)) 14 (cond (eqb count 0) 0 (cond (ltb (length slate) count) 7 (linesRefusal b ls start end category))) e .1)
+    go (suc n) e = v

@@ -1,0 +1,88 @@
+-- The reply of committing, and the board afterwards.
+use Prim.Native.Nat.{ℕ, zero, suc, _+_, _^_}
+use mathlib.Core.Bool.{Bool, true, false, not, _&&_, _||_, cond}
+use mathlib.Core.List.{List, [], _∷_}
+use lib.ListN.{length, getD, take}
+use lib.Dec.{leb, ltb, eqb}
+use Rattle.calendar.specs.Search.{Found, nothing, at}
+use Rattle.timeline.specs.declared.ResourceTimeline.{ResourceTimeline}
+use Rattle.timeline.specs.Bookings.{Booking, bookings}
+use Rattle.timeline.specs.Book.{insertBooking, diary}
+use Rattle.activity.specs.Check.{every}
+use Rattle.board.specs.declared.LastCategory.{LastCategory}
+use Rattle.board.specs.declared.LastCategory.the-variants.{Nothing, Category}
+use Rattle.board.specs.declared.Resource.{Resource}
+use Rattle.board.specs.declared.Board.{Board}
+use Rattle.board.specs.declared.Entered.{Entered}
+use Rattle.board.specs.Resources.{lookup, onBoard}
+use Rattle.board.specs.Valid as board
+use Rattle.board.specs.Enter.{entered, changed}
+use Rattle.scheduler.specs.Alone.{diaryOf}
+
+-- what a commitment reads of a row of the slate: the resource, the units, and whether it is a companion (any word but 0)
+pub record Line : Type 0 where
+  pub number : ℕ
+  pub units : ℕ
+  pub companion : Bool
+
+unfoldable pub lineOf : List ℕ → Line
+lineOf row = record { number = getD row 0 0; units = getD row 2 0; companion = not (eqb (getD row 3 0) 0) }
+
+unfoldable pub linesOf : ℕ → List (List ℕ) → List Line
+linesOf zero slate = []
+linesOf (suc n) [] = []
+linesOf (suc n) (row ∷ slate) = lineOf row ∷ linesOf n slate
+
+-- how many entries a resource has
+unfoldable pub entriesOn : ℕ → List Line → ℕ
+entriesOn number [] = 0
+entriesOn number (l ∷ ls) = cond (eqb (l .number) number) 1 0 + entriesOn number ls
+
+-- 7 entry count above the slate; 5 a resource not on the board, or category; 1 instant; 2 end ≤ start; 3 units; 4 a diary without
+-- places for all its entries; no entries: 0
+unfoldable pub linesRefusal : Board → List Line → ℕ → ℕ → ℕ → ℕ
+linesRefusal b ls start end category =
+    cond (not (every (λ l. onBoard b (l .number)) ls) || ltb 15 category) 5
+    (cond (ltb (2 ^ 42) start || ltb (2 ^ 42) end) 1
+    (cond (leb end start) 2
+    (cond (not (every (λ l. leb 1 (l .units) && leb (l .units) 10000) ls)) 3
+    (cond (not (every (λ l. leb (diaryOf b (l .number) .len + entriesOn (l .number) ls) 64) ls)) 4 0))))
+
+unfoldable pub commitRefusal : Board → List (List ℕ) → ℕ → ℕ → ℕ → ℕ → ℕ
+commitRefusal b slate count start end category =
+    cond (not (board.valid b)) 15
+    (cond (eqb count 0) 0
+    (cond (ltb (length slate) count) 7
+    (linesRefusal b (linesOf count slate) start end category)))
+
+-- a diary with one booking more
+unfoldable pub withBooking : ResourceTimeline → ℕ → ℕ → ℕ → ResourceTimeline
+withBooking t start end units =
+    diary (t .capacity) (t .calendar) (insertBooking (record { start = start; end = end; units = units }) (bookings t))
+
+-- non-companions with a matrix take the category
+unfoldable pub lastAfter : Resource → Bool → ℕ → LastCategory
+lastAfter r companion category = cond (r .matrix .present && not companion) (Category category) (r .last)
+
+unfoldable pub booked : ℕ → ℕ → ℕ → Line → Resource → Resource
+booked start end category l r = record {
+  number = r .number;
+  kind = r .kind;
+  skills = r .skills;
+  companions = r .companions;
+  count = r .count;
+  timeline = withBooking (r .timeline) start end (l .units);
+  matrix = r .matrix;
+  last = lastAfter r (l .companion) category;
+}
+
+-- books each entry in turn
+unfoldable pub bookAll : ℕ → ℕ → ℕ → List Line → Board → Board
+bookAll start end category [] b = b
+bookAll start end category (l ∷ ls) b =
+    bookAll start end category ls (changed b (lookup b (l .number)) (booked start end category l))
+
+-- what committing the first `count` entries of the slate replies
+unfoldable pub commitReply : Board → List (List ℕ) → ℕ → ℕ → ℕ → ℕ → Entered
+commitReply b slate count start end category =
+    entered (commitRefusal b slate count start end category) b (bookAll start end category (linesOf count slate) b)

@@ -1,0 +1,155 @@
+-- The rounds of choosing, of companions and of the closing fit end within 2,129 instants, as 01 counts them: ready, 16 arrivals, 128
+-- events on each of 16 diaries, and 64 on the order's own calendar. So the Rust's 10,000 rounds are never met.
+use mathlib.Core.Path.{_≡_, refl, sym, ap, _∙_, subst}
+use mathlib.Core.Bool.{Bool, true, false, _||_, cond}
+use mathlib.Core.List.{List, [], _∷_, _++_, map}
+use mathlib.Core.Logic.{_⊎_, inl, inr, ⊎-elim}
+use Prim.Native.Nat.{ℕ, zero, suc, _+_, _*_, _≤_, _<_, max}
+use native.Mathlib.Omega.{arith}
+use lib.ListN.{length, take, length-append, length-take}
+use lib.Dec.{eqb}
+use borrow.Author.Tests.{eqb-true, eqb-false}
+use Rattle.calendar.specs.declared.Calendar.{Calendar}
+use Rattle.calendar.specs.Basics.{not-both, no-way, lt-or-ge}
+use Rattle.calendar.specs.Search.{Found, nothing, at}
+use Rattle.calendar.specs.Valid as calendar
+use Rattle.calendar.proofs.Rules as calendar-rules
+use Rattle.timeline.specs.declared.ResourceTimeline.{ResourceTimeline}
+use Rattle.timeline.specs.Book.{diary}
+use Rattle.timeline.proofs.Meaning.{Earliest}
+use Rattle.activity.specs.declared.ResourceRequirement.{ResourceRequirement}
+use Rattle.activity.specs.declared.Activity.{Activity}
+use Rattle.activity.specs.Check.{every, requirementsOf}
+use Rattle.board.specs.declared.Resource.{Resource}
+use Rattle.board.specs.declared.Board.{Board}
+use Rattle.board.specs.Resources.{resourcesOf, onBoard}
+use Rattle.board.specs.Valid as board
+use Rattle.scheduler.specs.Alone.{Share, allStart, earliestOf, diaryOf}
+use Rattle.scheduler.specs.Choosing.{Held, Choice, noChoice, chosen, rounds, choosing}
+use Rattle.scheduler.specs.declared.Entry.{Entry}
+use Rattle.scheduler.specs.Fitting.{among, sharesOf, suits, fitting}
+use Rattle.scheduler.specs.Plain.{enough, heldAt}
+use Rattle.scheduler.specs.Tests.{or-in-left, or-in-right, or-cases}
+use Rattle.scheduler.specs.Lists.{Each, each-end, each-on}
+use Rattle.scheduler.specs.Together.{Sound}
+use Rattle.scheduler.specs.Answering.{Answers, answers-same}
+use Rattle.scheduler.specs.Events.{events, eventsOf, among-append, above, above-falls, above-length}
+use Rattle.scheduler.specs.Chosen.{Chooses, rounds-mean}
+use Rattle.scheduler.specs.Ruled.{eventsOn, events-length, on-event, on-valid, all-kept, all-listed, points, points-length, events-board}
+use Rattle.scheduler.specs.Closing.{fitting-answers}
+use Rattle.scheduler.specs.Latest.{latestOf, Step, Latest, latest-says, Rising, rising-start, rising-on, rising-found, rising-none, together-answers, events-count}
+use Rattle.scheduler.specs.Owning.{ownShare, own-valid, suitsOn, suits-on}
+
+-- from an instant to the latest of the least starts from it, until it stays; at most n times
+unfoldable pub stepped : ℕ → Found → (ℕ → Found) → Found
+stepped t nothing again = nothing
+stepped t (at u) again = cond (eqb u t) (at t) (again u)
+
+unfoldable pub steps : ℕ → (ℕ → Found) → ℕ → Found
+steps zero L t = nothing
+steps (suc n) L t = stepped t (L t) (steps n L)
+
+-- with more rounds than listed instants, the steps end in the least instant that passes
+module _ (P : ℕ → Bool) (L : ℕ → Found) (l : List ℕ) (says : (t : ℕ) → Latest P l t (L t)) (from : ℕ) where
+  walk : (n t i : ℕ) → Rising P l from t i → above l t < n → Answers P from (steps n L t)
+  unfolding steps stepped
+  walk zero t i r h = absurd (omega arith)
+  walk (suc n) t i r h = go (L t) (says t) (λ u. walk n u (i + 1))
+    where
+      one : (u : ℕ) → Step P l t u → (q : Bool) → eqb u t ≡ q → (Rising P l from u (i + 1) → above l u < n → Answers P from (steps n L u)) → Answers P from (cond q (at t) (steps n L u))
+      one u s true e again = rising-found P l from t i u r s (eqb-true u t e)
+      one u s false e again =
+          let ne = eqb-false u t e in
+          again (rising-on P l from t i u r s ne) (omega (arith, above-falls l t u (omega (arith, s .low)) (⊎-elim (λ (z : u ≡ t). absurd (ne z)) (λ (z : among u l ≡ true). z) (s .listed))))
+
+      go : (f : Found) → Latest P l t f → ((u : ℕ) → Rising P l from u (i + 1) → above l u < n → Answers P from (steps n L u)) → Answers P from (stepped t f (steps n L))
+      go nothing w again = rising-none P l from t i r w
+      go (at u) w again = one u w (eqb u t) refl (again u)
+
+  pub steps-mean : (n : ℕ) → length l < n → Answers P from (steps n L from)
+  steps-mean n h = walk n from 0 (rising-start P l from) (omega (arith, above-length l from))
+
+-- a list that holds more instants
+latest-wider : (P : ℕ → Bool) (l m : List ℕ) (t : ℕ) (f : Found) → ((x : ℕ) → among x l ≡ true → among x m ≡ true) → Latest P l t f → Latest P m t f
+latest-wider P l m t nothing f w = w
+latest-wider P l m t (at u) f w = record { low = w .low; none = w .none; here = w .here; listed = ⊎-elim (λ (e : u ≡ t). inl e) (λ (e : among u l ≡ true). inr (f u e)) (w .listed); range = w .range }
+
+-- Choosing: any number of rounds above 2,064 gives the choice.
+choices-same : (P : ℕ → Bool) (H : ℕ → List Held) (ready : ℕ) (f g : Choice) → Chooses P H ready f → Chooses P H ready g → f ≡ g
+choices-same P H ready noChoice noChoice v w = refl
+choices-same P H ready noChoice (chosen t hs) v w = absurd (not-both (P t) (w .0 .holds) (v t (w .0 .low)))
+choices-same P H ready (chosen t hs) noChoice v w = absurd (not-both (P t) (v .0 .holds) (w t (v .0 .low)))
+choices-same P H ready (chosen t hs) (chosen u ks) v w =
+    let l = ⊎-elim (λ (m : t < u). absurd (not-both (P t) (v .0 .holds) (w .0 .first t (v .0 .low) m))) (λ (m : u ≤ t). m) (lt-or-ge t u) in
+    let n = ⊎-elim (λ (m : u < t). absurd (not-both (P u) (w .0 .holds) (v .0 .first u (w .0 .low) m))) (λ (m : t ≤ u). m) (lt-or-ge u t) in
+    let e : t ≡ u = omega arith in
+    rw (v .1, w .1, e) refl
+
+pub choosing-rounds : (b : Board) → board.valid b ≡ true → (a : Activity) (ready : ℕ) (q : ResourceRequirement) (qs : List ResourceRequirement) → requirementsOf a ≡ q ∷ qs → 1 ≤ q .quantity
+    → (n : ℕ) → 2064 < n → rounds n b a ready ready ≡ choosing b a ready
+unfolding choosing
+choosing-rounds b v a ready q qs asks some n h =
+    let p = points b a ready in
+    let mean = rounds-mean b a ready (all-kept b v a ready) p (all-listed b v a ready) q qs asks some in
+    choices-same (enough b a ready (q ∷ qs)) (heldAt b a ready (q ∷ qs)) ready (rounds n b a ready ready) (rounds 10000 b a ready ready)
+    (mean n (omega (arith, above-length p ready, points-length b v a ready)))
+    (mean 10000 (omega (arith, above-length p ready, points-length b v a ready)))
+
+-- Companions: any number above 640 gives the least start of a resource with its at most four companions.
+pub companions-rounds : (resumable : Bool) (span : ℕ) (xs : List Share) (from n : ℕ) → Sound xs → length xs ≤ 5 → 640 < n → steps n (latestOf resumable span xs) from ≡ earliestOf resumable span xs from
+companions-rounds resumable span xs from n v few h =
+    answers-same (allStart resumable span xs) (allStart resumable span xs) from (steps n (latestOf resumable span xs) from) (earliestOf resumable span xs from) (λ x l. refl)
+    (steps-mean (allStart resumable span xs) (latestOf resumable span xs) (eventsOf xs) (λ t. latest-says resumable span xs t v) from n (omega (arith, events-count xs v)))
+    (together-answers resumable span xs from v)
+
+module _ (b : Board) (v : board.valid b ≡ true) (own : Calendar) (w : calendar.valid own ≡ true) where
+  -- the events on the order's own calendar and on all diaries of the board
+  abbrev pub closingPoints : List ℕ
+  closingPoints = events (ownShare own .timeline) ++ eventsOn (resourcesOf b)
+
+  own-length : length (events (ownShare own .timeline)) ≤ 64
+  unfolding events diary
+  own-length =
+      let A = take (own .windows .len) (own .windows .starts) in
+      let B = take (own .blocks .len) (own .blocks .ends) in
+      omega (
+        arith,
+        length-append A (B ++ []),
+        length-append B [],
+        length-take (own .windows .len) (own .windows .starts),
+        length-take (own .blocks .len) (own .blocks .ends),
+        calendar-rules.right (own .windows) (calendar-rules.windows-right own w) .few,
+        calendar-rules.right (own .blocks) (calendar-rules.blocks-right own w) .few,
+      )
+
+  pub closing-length : length closingPoints ≤ 2112
+  closing-length = omega (arith, length-append (events (ownShare own .timeline)) (eventsOn (resourcesOf b)), own-length, events-board b v)
+
+  entry-events : (es : List Entry) → Each (λ e. onBoard b (e .number) ≡ true) es → (x : ℕ) → among x (eventsOf (sharesOf b es)) ≡ true → among x (eventsOn (resourcesOf b)) ≡ true
+  unfolding eventsOf among
+  entry-events [] each-end x h = absurd (not-both true refl (sym h))
+  entry-events (e ∷ es) (each-on o os) x h =
+      ⊎-elim
+      (λ (k : among x (events (diaryOf b (e .number))) ≡ true). on-event b v (e .number) x o k)
+      (λ (k : among x (eventsOf (sharesOf b es)) ≡ true). entry-events es os x k)
+      (or-cases (among x (events (diaryOf b (e .number)))) (among x (eventsOf (sharesOf b es))) (sym (among-append x (events (diaryOf b (e .number))) (eventsOf (sharesOf b es))) ∙ h))
+
+  entries-valid : (es : List Entry) → Each (λ e. onBoard b (e .number) ≡ true) es → Sound (sharesOf b es)
+  entries-valid [] each-end = each-end
+  entries-valid (e ∷ es) (each-on o os) = each-on (on-valid b v (e .number) o) (entries-valid es os)
+
+  -- The closing fit of unbroken work: any number above 2,112 gives the least start that suits all.
+  pub closing-rounds : (es : List Entry) → Each (λ e. onBoard b (e .number) ≡ true) es → (span t n : ℕ) → 2112 < n → steps n (latestOf false span (ownShare own ∷ sharesOf b es)) t ≡ fitting false (sharesOf b es) own span t
+  unfolding suitsOn eventsOf
+  closing-rounds es on span t n h =
+      let ys = ownShare own ∷ sharesOf b es in
+      let sound : Sound ys = each-on (own-valid own w) (entries-valid es on) in
+      let wider : (x : ℕ) → among x (eventsOf ys) ≡ true → among x closingPoints ≡ true = λ x k.
+      among-append x (events (ownShare own .timeline)) (eventsOn (resourcesOf b))
+      ∙ ⊎-elim
+      (λ (j : among x (events (ownShare own .timeline)) ≡ true). or-in-left _ (among x (eventsOn (resourcesOf b))) j)
+      (λ (j : among x (eventsOf (sharesOf b es)) ≡ true). or-in-right (among x (events (ownShare own .timeline))) _ (entry-events es on x j))
+      (or-cases (among x (events (ownShare own .timeline))) (among x (eventsOf (sharesOf b es))) (sym (among-append x (events (ownShare own .timeline)) (eventsOf (sharesOf b es))) ∙ k)) in
+      answers-same (allStart false span ys) (suits false (sharesOf b es) own span) t (steps n (latestOf false span ys) t) (fitting false (sharesOf b es) own span t) (λ x l. sym (suits-on false (sharesOf b es) own span x))
+      (steps-mean (allStart false span ys) (latestOf false span ys) closingPoints (λ u. latest-wider (allStart false span ys) (eventsOf ys) closingPoints u (latestOf false span ys u) wider (latest-says false span ys u sound)) t n (omega (arith, closing-length)))
+      (fitting-answers false (sharesOf b es) own span t (entries-valid es on) w)

@@ -1,0 +1,108 @@
+-- Alike boards: what holds on the second of a diary holds on the first, and of one without extras on both alike.
+use mathlib.Core.Path.{_≡_, refl, sym, ap, _∙_, subst, fun-ext}
+use mathlib.Core.Bool.{Bool, true, false, not, _&&_, cond}
+use mathlib.Core.List.{List, [], _∷_, _++_, map}
+use mathlib.Core.Logic.{_⊎_, inl, inr, ⊎-elim}
+use Prim.Native.Nat.{ℕ, zero, suc, _+_, _≤_, _<_}
+use native.Mathlib.Omega.{arith}
+use lib.ListN.{getD, length, take}
+use lib.Dec.{leb, eqb}
+use borrow.Author.Tests.{eq-eqb, eqb-true, not-true}
+use Rattle.calendar.specs.declared.Calendar.{Calendar}
+use Rattle.calendar.specs.Basics.{and-split, and-join, no-way, not-both}
+use Rattle.calendar.specs.Search.{Found, nothing, at, leastFrom}
+use Rattle.calendar.specs.Fits.{fits}
+use Rattle.calendar.specs.Work.{jointEnd}
+use Rattle.calendar.specs.Meaning.{least-none, least-is}
+use Rattle.timeline.specs.declared.ResourceTimeline.{ResourceTimeline}
+use Rattle.timeline.specs.Bookings.{bookings}
+use Rattle.timeline.specs.Earliest.{freeOn, fitsAt, freeTo, startsAt}
+use Rattle.timeline.proofs.Meaning.{Holds, free-more}
+use Rattle.activity.specs.declared.ResourceRequirement.{ResourceRequirement}
+use Rattle.activity.specs.declared.Activity.{Activity}
+use Rattle.activity.specs.Serving.{serves}
+use Rattle.activity.specs.Check.{every}
+use Rattle.board.specs.declared.Resource.{Resource}
+use Rattle.board.specs.declared.Board.{Board}
+use Rattle.board.specs.Resources.{noResource, resourcesOf, resourceAt, numberAt, lookupTo, lookup, isAt, onBoard}
+use Rattle.board.specs.Transport.{greatest}
+use Rattle.scheduler.specs.Alone.{Share, canStart, allStart, resourceIn, diaryOf, companionsOf, oneUnit, withCompanions, durationAlone, spanAlone, arrival}
+use Rattle.scheduler.specs.Fitting.{allFree}
+use Rattle.scheduler.specs.Alike.{AlikeDiary, AlikeResource, Alike, NoExtra}
+use Rattle.board.proofs.Meaning.{lookup-means}
+use Rattle.scheduler.specs.Lists.{Pairs, pairs-end, pairs-on}
+
+-- the second of two shares wants the same of a diary alike but for extra bookings
+pub record AlikeShare (x y : Share) : Type 0 where
+  pub units-same : x .units ≡ y .units
+  pub alike : AlikeDiary (x .timeline) (y .timeline)
+
+pub free-less : (x y : Share) (s e : ℕ) → AlikeShare x y → freeOn (y .timeline) (y .units) s e ≡ true → freeOn (x .timeline) (x .units) s e ≡ true
+free-less x y s e a h =
+    rw (a .units-same, a .alike .capacity-same) (free-more (y .timeline .capacity) (bookings (x .timeline)) (bookings (y .timeline)) (y .units) s e (a .alike .more) h)
+
+-- extra bookings free nothing
+pub can-less : (resumable : Bool) (span : ℕ) (x y : Share) (s : ℕ) → AlikeShare x y → canStart resumable span y s ≡ true → canStart resumable span x s ≡ true
+unfolding canStart startsAt freeTo fitsAt
+can-less true span x y s a h = go (jointEnd (y .timeline .calendar ∷ []) s span) refl h
+  where
+    go : (f : Found) → jointEnd (y .timeline .calendar ∷ []) s span ≡ f → freeTo (y .timeline) (y .units) s f ≡ true → freeTo (x .timeline) (x .units) s (jointEnd (x .timeline .calendar ∷ []) s span) ≡ true
+    go nothing e g = absurd (not-both _ g refl)
+    go (at d) e g = rw (ap (λ (c : Calendar). jointEnd (c ∷ []) s span) (a .alike .calendar-same) ∙ e) (free-less x y s d a g)
+can-less false span x y s a h =
+    let w = and-split (fits (y .timeline .calendar) s (s + span)) (freeOn (y .timeline) (y .units) s (s + span)) h in
+    and-join (fits (x .timeline .calendar) s (s + span)) (freeOn (x .timeline) (x .units) s (s + span))
+    (ap (λ (c : Calendar). fits c s (s + span)) (a .alike .calendar-same) ∙ w .0)
+    (free-less x y s (s + span) a (w .1))
+
+pub all-less : (resumable : Bool) (span : ℕ) (xs ys : List Share) (s : ℕ) → Pairs AlikeShare xs ys → allStart resumable span ys s ≡ true → allStart resumable span xs s ≡ true
+unfolding allStart
+all-less resumable span [] [] s pairs-end h = refl
+all-less resumable span (x ∷ xs) (y ∷ ys) s (pairs-on a p) h =
+    let w = and-split (canStart resumable span y s) (allStart resumable span ys s) h in
+    and-join (canStart resumable span x s) (allStart resumable span xs s) (can-less resumable span x y s a (w .0)) (all-less resumable span xs ys s p (w .1))
+
+pub all-free-less : (xs ys : List Share) (s e : ℕ) → Pairs AlikeShare xs ys → allFree ys s e ≡ true → allFree xs s e ≡ true
+unfolding allFree
+all-free-less [] [] s e pairs-end h = refl
+all-free-less (x ∷ xs) (y ∷ ys) s e (pairs-on a p) h =
+    let w = and-split (freeOn (y .timeline) (y .units) s e) (allFree ys s e) h in
+    and-join (freeOn (x .timeline) (x .units) s e) (allFree xs s e) (free-less x y s e a (w .0)) (all-free-less xs ys s e p (w .1))
+
+pub same-alike : (t : ResourceTimeline) → AlikeDiary t t
+same-alike t = record { capacity-same = refl; calendar-same = refl; more = λ b. omega arith }
+
+pub least-same : (P Q : ℕ → Bool) (i n : ℕ) → ((m : ℕ) → i ≤ m → m < i + n → P m ≡ Q m) → leastFrom P i n ≡ leastFrom Q i n
+unfolding leastFrom
+least-same P Q i zero f = refl
+least-same P Q i (suc n) f = go (P i) (Q i) (f i (omega arith) (omega arith)) (least-same P Q (suc i) n (λ m l h. f m (omega arith) (omega arith)))
+  where
+    go : (p q : Bool) → p ≡ q → leastFrom P (suc i) n ≡ leastFrom Q (suc i) n → _≡_ {A = Found} (elim p [ true ↦ at i | false ↦ leastFrom P (suc i) n ]) (elim q [ true ↦ at i | false ↦ leastFrom Q (suc i) n ])
+    go true true e h = refl
+    go true false e h = absurd (not-both true refl e)
+    go false true e h = absurd (not-both true refl (sym e))
+    go false false e h = h
+
+module _ (b c : Board) (k : Alike b c) where
+  -- a number has the same place on both
+  pub lookup-same : (n : ℕ) → lookup b n ≡ lookup c n
+  unfolding lookupTo
+  lookup-same n =
+      least-same (λ m. eqb (numberAt b m) n) (λ m. eqb (numberAt c m) n) 0 (b .len) (λ m l h. ap (λ (x : ℕ). eqb x n) (k .resources-alike m (omega arith) .number-same))
+      ∙ ap (leastFrom (λ m. eqb (numberAt c m) n) 0) (k .len-same)
+
+  pub on-same : (n : ℕ) → onBoard b n ≡ onBoard c n
+  on-same n = ap isAt (lookup-same n)
+
+  -- the diaries of a number are alike
+  pub diaries-alike : (n : ℕ) → AlikeDiary (diaryOf b n) (diaryOf c n)
+  unfolding resourceIn
+  diaries-alike n = subst (λ (g : Found). AlikeDiary (diaryOf b n) (resourceIn c g .timeline)) (lookup-same n) (go (lookup b n) refl)
+    where
+      go : (f : Found) → lookup b n ≡ f → AlikeDiary (resourceIn b f .timeline) (resourceIn c f .timeline)
+      go nothing e = same-alike (noResource .timeline)
+      go (at i) e = k .resources-alike i (lookup-means b n i e .0) .diary-alike
+
+  -- and where no extra is on it, the other way round too
+  pub diaries-same : (n : ℕ) → NoExtra b c n → AlikeDiary (diaryOf c n) (diaryOf b n)
+  diaries-same n f = let a = diaries-alike n in record { capacity-same = sym (a .capacity-same); calendar-same = sym (a .calendar-same); more = f }

@@ -1,0 +1,55 @@
+-- Small facts on lists.
+use mathlib.Core.Path.{_≡_, refl, ap, _∙_}
+use mathlib.Core.List.{List, [], _∷_, _++_, map}
+use Prim.Native.Nat.{ℕ, zero, suc, _+_, _≤_, _<_}
+use native.Mathlib.Omega.{arith}
+use lib.ListN.{length, take}
+
+-- P holds of each
+pub data Each {A : Type 0} (P : A → Type 0) : List A → Type 0 where
+  each-end : Each P []
+  each-on : {x : A} → {xs : List A} → P x → Each P xs → Each P (x ∷ xs)
+
+pub each-append : {A : Type 0} (P : A → Type 0) (xs ys : List A) → Each P xs → Each P ys → Each P (xs ++ ys)
+each-append P [] ys each-end b = b
+each-append P (x ∷ xs) ys (each-on p a) b = each-on p (each-append P xs ys a b)
+
+pub each-take : {A : Type 0} (P : A → Type 0) (k : ℕ) (xs : List A) → Each P xs → Each P (take k xs)
+each-take P zero xs a = each-end
+each-take P (suc k) [] a = each-end
+each-take P (suc k) (x ∷ xs) (each-on p a) = each-on p (each-take P k xs a)
+
+pub each-map : {A : Type 0} (P Q : A → Type 0) (xs : List A) → ((x : A) → P x → Q x) → Each P xs → Each Q xs
+each-map P Q [] f each-end = each-end
+each-map P Q (x ∷ xs) f (each-on p a) = each-on (f x p) (each-map P Q xs f a)
+
+-- the first k of two lists one behind the other
+pub take-front : {A : Type 0} (k : ℕ) (xs ys : List A) → k ≤ length xs → take k (xs ++ ys) ≡ take k xs
+take-front zero xs ys l = refl
+take-front (suc k) [] ys l = absurd (omega arith)
+take-front {A = A} (suc k) (x ∷ xs) ys l = ap {B = List A} (λ r. x ∷ r) (take-front k xs ys (omega arith))
+
+pub append-nil : {A : Type 0} (xs : List A) → xs ++ [] ≡ xs
+append-nil [] = refl
+append-nil {A = A} (x ∷ xs) = ap {B = List A} (λ r. x ∷ r) (append-nil xs)
+
+pub each-left : {A : Type 0} (P : A → Type 0) (xs ys : List A) → Each P (xs ++ ys) → Each P xs
+each-left P [] ys a = each-end
+each-left P (x ∷ xs) ys (each-on p a) = each-on p (each-left P xs ys a)
+
+pub each-right : {A : Type 0} (P : A → Type 0) (xs ys : List A) → Each P (xs ++ ys) → Each P ys
+each-right P [] ys a = a
+each-right P (x ∷ xs) ys (each-on p a) = each-right P xs ys a
+
+-- R holds of the elements of two lists, one by one
+pub data Pairs {A : Type 0} (R : A → A → Type 0) : List A → List A → Type 0 where
+  pairs-end : Pairs R [] []
+  pairs-on : {x y : A} → {xs ys : List A} → R x y → Pairs R xs ys → Pairs R (x ∷ xs) (y ∷ ys)
+
+pub pairs-map : {X A : Type 0} (R : A → A → Type 0) (f g : X → A) (xs : List X) → ((x : X) → R (f x) (g x)) → Pairs R (map f xs) (map g xs)
+pairs-map R f g [] h = pairs-end
+pairs-map R f g (x ∷ xs) h = pairs-on (h x) (pairs-map R f g xs h)
+
+pub pairs-append : {A : Type 0} (R : A → A → Type 0) (xs ys us vs : List A) → Pairs R xs ys → Pairs R us vs → Pairs R (xs ++ us) (ys ++ vs)
+pairs-append R [] [] us vs pairs-end q = q
+pairs-append R (x ∷ xs) (y ∷ ys) us vs (pairs-on r p) q = pairs-on r (pairs-append R xs ys us vs p q)

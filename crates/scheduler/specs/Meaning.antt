@@ -1,0 +1,134 @@
+-- What choosing and placing amount to, in the plainest terms.
+use mathlib.Core.Path.{_≡_, refl, sym, ap, _∙_, subst}
+use mathlib.Core.Bool.{Bool, true, false, not, _&&_, _||_, cond}
+use mathlib.Core.List.{List, [], _∷_, _++_, map}
+use mathlib.Core.Logic.{_⊎_, inl, inr, ⊎-elim}
+use Prim.Native.Nat.{ℕ, zero, suc, _+_, _≤_, _<_}
+use native.Mathlib.Omega.{arith}
+use lib.ListN.{length, drop}
+use lib.Dec.{leb, ltb}
+use borrow.Author.Tests.{leb-true, not-false}
+use Rattle.calendar.specs.Basics.{and-split, not-both}
+use Rattle.calendar.specs.Search.{Found, nothing, at}
+use Rattle.calendar.specs.Valid as calendar
+use Rattle.calendar.specs.Work.{jointEnd}
+use Rattle.timeline.proofs.Meaning.{Earliest}
+use Rattle.activity.specs.declared.ResourceRequirement.{ResourceRequirement}
+use Rattle.activity.specs.declared.Activity.{Activity}
+use Rattle.activity.specs.Check.{every, requirementsOf, quantity, quantitiesRight, usageRight, timingSpeed, timesRight, activityRefusal}
+use Rattle.board.specs.declared.Board.{Board}
+use Rattle.board.specs.Valid as board
+use Rattle.scheduler.specs.Alone.{Share}
+use Rattle.scheduler.specs.Choosing.{Held, Choice, noChoice, chosen, rounds, choosing}
+use Rattle.scheduler.specs.declared.Entry.{Entry}
+use Rattle.scheduler.specs.Fitting.{entriesOf, spanTogether, sharesOf, calendarsOf, freeToEnd, startsAll, suits, fitting, endOf}
+use Rattle.scheduler.specs.Placing.{Reply, placed, chosenNone, none, refused, ended, started, fitted, fitChosen, byRequirements, placing, rowOf, slateAfter}
+use Rattle.scheduler.specs.Plain.{enough, heldAt}
+use Rattle.scheduler.specs.Tests.{or-right, unrefused}
+use Rattle.scheduler.specs.Together.{Sound}
+use Rattle.scheduler.specs.Answering.{Answers}
+use Rattle.scheduler.specs.Events.{above-length}
+use Rattle.scheduler.specs.Chosen.{Chooses, rounds-mean}
+use Rattle.scheduler.specs.Ruled.{all-kept, all-listed, points, points-length}
+use Rattle.scheduler.specs.Closing.{fitting-answers}
+use Rattle.scheduler.specs.Reported.{held-at-whole, entries-sound}
+
+-- The choice on a board that keeps the rules: the choosing instant is the least instant from ready on at which every requirement has its
+-- quantity of resources that can start at that instant itself, and held are the first of those by process, then board order; there is
+-- no choice only if there is no such instant, however late.
+pub choosing-means : (b : Board) → board.valid b ≡ true → (a : Activity) (ready : ℕ) (q : ResourceRequirement) (qs : List ResourceRequirement) → requirementsOf a ≡ q ∷ qs → 1 ≤ q .quantity
+    → Chooses (enough b a ready (q ∷ qs)) (heldAt b a ready (q ∷ qs)) ready (choosing b a ready)
+unfolding choosing
+choosing-means b v a ready q qs asks some =
+    rounds-mean b a ready (all-kept b v a ready) (points b a ready) (all-listed b v a ready) q qs asks some 10000 (omega (arith, above-length (points b a ready) ready, points-length b v a ready))
+
+-- an order that is not refused asks for at least one of each
+pub some-of-each : (a : Activity) (ready : ℕ) (q : ResourceRequirement) (qs : List ResourceRequirement) → requirementsOf a ≡ q ∷ qs → activityRefusal a ready ≡ 0 → 1 ≤ q .quantity
+unfolding activityRefusal quantitiesRight every
+some-of-each a ready q qs asks h =
+    let last : ℕ = cond (not (every usageRight (requirementsOf a))) 3 (cond (not (every (λ t. timingSpeed (t .timing)) (a .timings))) 8 0) in
+    let third : ℕ = cond (ltb 4 (a .len) || not (quantitiesRight (requirementsOf a))) 6 last in
+    let e = unrefused (not (timesRight a ready)) 0 third (unrefused (ltb 15 (a .category)) 4 (cond (not (timesRight a ready)) 1 third) h .1) .1 in
+    let f = not-false (quantitiesRight (requirementsOf a)) (or-right (ltb 4 (a .len)) (not (quantitiesRight (requirementsOf a))) (unrefused (ltb 4 (a .len) || not (quantitiesRight (requirementsOf a))) 5 last e .0)) in
+    let g : quantitiesRight (q ∷ qs) ≡ true = rw asks at f in
+    let i = and-split (every (λ r. leb 1 (r .quantity)) (q ∷ qs)) (leb (quantity (q ∷ qs)) 8) g .0 in
+    leb-true 1 (q .quantity) (and-split (leb 1 (q .quantity)) (every (λ r. leb 1 (r .quantity)) qs) i .0)
+
+-- a start that suits all has an end
+has-end : (resumable : Bool) (xs : List Share) (a : Activity) (span s : ℕ) → suits resumable xs (a .calendar) span s ≡ true → (e : ℕ) × (endOf resumable xs (a .calendar) span s ≡ at e)
+unfolding suits endOf startsAll freeToEnd
+has-end true xs a span s h = go (jointEnd (calendarsOf xs (a .calendar)) s span) h
+  where
+    go : (f : Found) → freeToEnd xs s f ≡ true → (e : ℕ) × (f ≡ at e)
+    go nothing k = absurd (not-both true refl (sym k))
+    go (at e) k = (e, refl)
+has-end false xs a span s h = (s + span, refl)
+
+-- What the closing fit of some entries amounts to.
+pub record Fitted (b : Board) (a : Activity) (span t s e : ℕ) (es : List Entry) : Type 0 where
+  -- the start is the least from the choosing instant on that suits every entry and the order's own calendar
+  pub start : Earliest (suits (a .resumable) (sharesOf b es) (a .calendar) span) t s
+  -- and the end is where the span or the work ends
+  pub end : endOf (a .resumable) (sharesOf b es) (a .calendar) span s ≡ at e
+
+module _ (b : Board) (a : Activity) (span t : ℕ) (es : List Entry) (sound : Sound (sharesOf b es)) (own : calendar.valid (a .calendar) ≡ true) where
+  abbrev fits : Found
+  fits = fitting (a .resumable) (sharesOf b es) (a .calendar) span t
+
+  answers : Answers (suits (a .resumable) (sharesOf b es) (a .calendar) span) t fits
+  answers = fitting-answers (a .resumable) (sharesOf b es) (a .calendar) span t sound own
+
+  -- either a placement with such a start and end, or 'chosen, none' because nothing suits from there on
+  pub fitted-means : ((s : ℕ) × (e : ℕ) × (fitted b a span t es ≡ placed t s e es) × Fitted b a span t s e es) ⊎ ((fitted b a span t es ≡ chosenNone t) × ((x : ℕ) → t ≤ x → suits (a .resumable) (sharesOf b es) (a .calendar) span x ≡ false))
+  unfolding fitted started ended
+  fitted-means = go fits refl answers
+    where
+      go : (f : Found) → fits ≡ f → Answers (suits (a .resumable) (sharesOf b es) (a .calendar) span) t f
+          → ((s : ℕ) × (e : ℕ) × (fitted b a span t es ≡ placed t s e es) × Fitted b a span t s e es) ⊎ ((fitted b a span t es ≡ chosenNone t) × ((x : ℕ) → t ≤ x → suits (a .resumable) (sharesOf b es) (a .calendar) span x ≡ false))
+      go nothing e w = inr (ap (started (a .resumable) (sharesOf b es) a span t es) e, w)
+      go (at s) e w =
+          let k = has-end (a .resumable) (sharesOf b es) a span s (w .holds) in
+          inl (s, k .0, ap (started (a .resumable) (sharesOf b es) a span t es) e ∙ ap (ended t s es) (k .1), record { start = w; end = k .1 })
+
+-- Placing an order with requirements, on a board that keeps the rules, nothing being refused:
+pub data Placing (b : Board) (a : Activity) (ready : ℕ) (qs : List ResourceRequirement) : Reply → Type 0 where
+  -- at no instant, however late, does every requirement have enough
+  never : ((x : ℕ) → ready ≤ x → enough b a ready qs x ≡ false) → Placing b a ready qs none
+  -- the choosing instant is the least with enough, but from there on no start suits those held and their companions together
+  unfit : (t : ℕ) → Earliest (enough b a ready qs) ready t
+      → ((x : ℕ) → t ≤ x → suits (a .resumable) (sharesOf b (entriesOf a (heldAt b a ready qs t))) (a .calendar) (spanTogether a (heldAt b a ready qs t)) x ≡ false)
+      → Placing b a ready qs (chosenNone t)
+  -- or the start is the least from there that suits them
+  fit : (t s e : ℕ) → Earliest (enough b a ready qs) ready t
+      → Fitted b a (spanTogether a (heldAt b a ready qs t)) t s e (entriesOf a (heldAt b a ready qs t))
+      → Placing b a ready qs (placed t s e (entriesOf a (heldAt b a ready qs t)))
+
+pub placing-means : (b : Board) → board.valid b ≡ true → (a : Activity) → calendar.valid (a .calendar) ≡ true → (ready from : ℕ) → activityRefusal a from ≡ 0 → (q : ResourceRequirement) (qs : List ResourceRequirement) → requirementsOf a ≡ q ∷ qs
+    → Placing b a ready (q ∷ qs) (placing b a ready)
+unfolding placing byRequirements fitChosen
+placing-means b v a own ready from lawful q qs asks = rw asks (go (choosing b a ready) (choosing-means b v a ready q qs asks (some-of-each a from q qs asks lawful)))
+  where
+    held : (t : ℕ) → Earliest (enough b a ready (q ∷ qs)) ready t → Placing b a ready (q ∷ qs) (fitted b a (spanTogether a (heldAt b a ready (q ∷ qs) t)) t (entriesOf a (heldAt b a ready (q ∷ qs) t)))
+    held t w =
+        let hs = heldAt b a ready (q ∷ qs) t in
+        ⊎-elim
+        (λ k. subst (Placing b a ready (q ∷ qs)) (sym (k .2)) (fit t (k .0) (k .1) w (k .3)))
+        (λ k. subst (Placing b a ready (q ∷ qs)) (sym (k .0)) (unfit t w (k .1)))
+        (fitted-means b a (spanTogether a hs) t (entriesOf a hs) (entries-sound b v a hs (held-at-whole b a ready v (q ∷ qs) t)) own)
+
+    go : (f : Choice) → Chooses (enough b a ready (q ∷ qs)) (heldAt b a ready (q ∷ qs)) ready f → Placing b a ready (q ∷ qs) (fitChosen b a f)
+    go noChoice w = never w
+    go (chosen t hs) w = subst (λ (l : List Held). Placing b a ready (q ∷ qs) (fitted b a (spanTogether a l) t (entriesOf a l))) (sym (w .1)) (held t (w .0))
+
+-- Placing writes no slate entry beyond those it reports, and none at all without a placement.
+pub slate-rest : (t s e : ℕ) (es : List Entry) (slate : List (List ℕ)) → drop (length es) (slateAfter (placed t s e es) slate) ≡ drop (length es) slate
+unfolding slateAfter
+slate-rest t s e es slate = behind es (drop (length es) slate)
+  where
+    behind : (es : List Entry) (l : List (List ℕ)) → drop (length es) (map rowOf es ++ l) ≡ l
+    behind [] l = refl
+    behind (e ∷ es) l = behind es l
+
+pub slate-same : (t n : ℕ) (slate : List (List ℕ)) → (slateAfter (chosenNone t) slate ≡ slate) × (slateAfter none slate ≡ slate) × (slateAfter (refused n) slate ≡ slate)
+unfolding slateAfter
+slate-same t n slate = (refl, refl, refl)

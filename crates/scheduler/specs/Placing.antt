@@ -1,0 +1,96 @@
+-- The reply of placing, and the slate afterwards.
+use Prim.Native.Nat.{ℕ, zero, suc}
+use mathlib.Core.Bool.{Bool, true, false, not, _||_, cond}
+use mathlib.Core.List.{List, [], _∷_, _++_, map}
+use lib.ListN.{length, drop}
+use lib.Dec.{ltb}
+use Rattle.calendar.specs.Search.{Found, nothing, at}
+use Rattle.calendar.specs.Valid as calendar
+use Rattle.activity.specs.declared.ResourceRequirement.{ResourceRequirement}
+use Rattle.activity.specs.declared.Activity.{Activity}
+use Rattle.activity.specs.Ready.{readyOf}
+use Rattle.activity.specs.Check.{requirementsOf, activityRefusal}
+use Rattle.board.specs.declared.Board.{Board}
+use Rattle.board.specs.Valid as board
+use Rattle.scheduler.specs.Alone.{Share, spanOf}
+use Rattle.scheduler.specs.Choosing.{Held, Choice, noChoice, chosen, choosing}
+use Rattle.scheduler.specs.declared.Entry.{Entry}
+use Rattle.scheduler.specs.Fitting.{entriesOf, spanTogether, sharesOf, fitting, endOf}
+
+-- what placing replies: a placement (choosing instant, start, end, entries), 'chosen, none' with the choosing instant, 'none', or a
+-- refusal's number
+pub data Reply : Type 0 where
+  placed : ℕ → ℕ → ℕ → List Entry → Reply
+  chosenNone : ℕ → Reply
+  none : Reply
+  refused : ℕ → Reply
+
+-- no start: 'chosen, none'
+unfoldable pub ended : ℕ → ℕ → List Entry → Found → Reply
+ended t s es nothing = chosenNone t
+ended t s es (at e) = placed t s e es
+
+unfoldable pub started : Bool → List Share → Activity → ℕ → ℕ → List Entry → Found → Reply
+started resumable xs a span t es nothing = chosenNone t
+started resumable xs a span t es (at s) = ended t s es (endOf resumable xs (a .calendar) span s)
+
+-- the closing fit of some entries, from the choosing instant on
+unfoldable pub fitted : Board → Activity → ℕ → ℕ → List Entry → Reply
+fitted b a span t es =
+    started (a .resumable) (sharesOf b es) a span t es (fitting (a .resumable) (sharesOf b es) (a .calendar) span t)
+
+-- the choice, then the fit of those held
+unfoldable pub fitChosen : Board → Activity → Choice → Reply
+fitChosen b a noChoice = none
+fitChosen b a (chosen t hs) = fitted b a (spanTogether a hs) t (entriesOf a hs)
+
+-- without requirements: setup + process + teardown from ready on the own calendar; the choosing instant is ready
+unfoldable pub timeOnly : Board → Activity → ℕ → Reply
+timeOnly b a ready = fitted b a (spanOf (a .duration .setup) (a .duration)) ready []
+
+unfoldable pub byRequirements : List ResourceRequirement → Reply → Reply → Reply
+byRequirements [] alone held = alone
+byRequirements (q ∷ qs) alone held = held
+
+-- placing from ready on, nothing being refused
+unfoldable pub placing : Board → Activity → ℕ → Reply
+placing b a ready = byRequirements (requirementsOf a) (timeOnly b a ready) (fitChosen b a (choosing b a ready))
+
+unfoldable pub refusedOr : ℕ → Reply → Reply
+refusedOr zero reply = reply
+refusedOr (suc n) reply = refused (suc n)
+
+-- 15 a board or an own calendar that breaks the rules; 7 a slate under 24 entries; then the order's refusals: 5, 1, 6, 3, 8
+unfoldable pub placeRefusal : Board → Activity → ℕ → ℕ → ℕ
+placeRefusal b a ready slate =
+    cond (not (board.valid b) || not (calendar.valid (a .calendar))) 15
+    (cond (ltb slate 24) 7 (activityRefusal a ready))
+
+-- what placing replies, the slate having so many entries
+unfoldable pub placeReply : Board → Activity → ℕ → ℕ → Reply
+placeReply b a ready slate = refusedOr (placeRefusal b a ready slate) (placing b a (readyOf (a .release) ready))
+
+-- an entry on the slate: number, setup, units, companion 0 or 1
+unfoldable pub rowOf : Entry → List ℕ
+rowOf e = e .number ∷ e .setup ∷ e .units ∷ cond (e .companion) 1 0 ∷ []
+
+-- a placement stands at the front of the slate, and nothing else is written
+unfoldable pub slateAfter : Reply → List (List ℕ) → List (List ℕ)
+slateAfter (placed t s e es) slate = map rowOf es ++ drop (length es) slate
+slateAfter (chosenNone t) slate = slate
+slateAfter none slate = slate
+slateAfter (refused n) slate = slate
+
+-- only a placement and 'chosen, none' have a choosing instant
+unfoldable pub choosingInstant : Reply → Found
+choosingInstant (placed t s e es) = at t
+choosingInstant (chosenNone t) = at t
+choosingInstant none = nothing
+choosingInstant (refused n) = nothing
+
+-- a refusal's number, 0 where nothing is refused
+unfoldable pub refusalOf : Reply → ℕ
+refusalOf (placed t s e es) = 0
+refusalOf (chosenNone t) = 0
+refusalOf none = 0
+refusalOf (refused n) = n

@@ -1,0 +1,103 @@
+-- The resources of a placement are on the board, so that their diaries keep the rules.
+use mathlib.Core.Path.{_≡_, refl, sym, ap, _∙_, subst}
+use mathlib.Core.Bool.{Bool, true, false, _&&_, _||_, cond}
+use mathlib.Core.List.{List, [], _∷_, _++_, map}
+use Prim.Native.Nat.{ℕ, zero, suc, _<_}
+use lib.ListN.{length, take}
+use Rattle.calendar.specs.Basics.{and-split}
+use Rattle.activity.specs.declared.ResourceRequirement.{ResourceRequirement}
+use Rattle.activity.specs.declared.Activity.{Activity}
+use Rattle.activity.specs.Serving.{serves}
+use Rattle.activity.specs.Check.{every}
+use Rattle.board.specs.declared.Resource.{Resource}
+use Rattle.board.specs.declared.Board.{Board}
+use Rattle.board.specs.Resources.{resourcesOf, resourceAt, isAt, onBoard}
+use Rattle.board.specs.Valid as board
+use Rattle.board.proofs.Meaning.{lookup-is}
+use Rattle.timeline.specs.Valid as timeline
+use Rattle.scheduler.specs.Alone.{companionsOf}
+use Rattle.scheduler.specs.Choosing.{Candidate, sort, Held, heldFor, holdFirst}
+use Rattle.scheduler.specs.declared.Entry.{Entry}
+use Rattle.scheduler.specs.Fitting.{numbersOf, durationTogether, heldEntry, heldEntries, among, joinEach, allCompanions, companionEntry, companionEntries, entriesOf, shareOf, sharesOf}
+use Rattle.scheduler.specs.Plain.{startsThere, candidateAt, startable, heldAt}
+use Rattle.scheduler.specs.Lists.{Each, each-end, each-on, each-append, each-take}
+use Rattle.scheduler.specs.Together.{Sound}
+use Rattle.scheduler.specs.Ranking.{each-sort}
+use Rattle.scheduler.specs.Ruled.{each-index, on-valid}
+
+module _ (b : Board) where
+  -- a resource on the board whose companions are
+  pub record Whole (r : Resource) : Type 0 where
+    pub itself : onBoard b (r .number) ≡ true
+    pub companions : every (onBoard b) (companionsOf r) ≡ true
+
+  module _ (a : Activity) (ready : ℕ) where
+    startable-whole : (q : ResourceRequirement) (t : ℕ) (rs : List Resource) → Each (λ r. onBoard b (r .number) ≡ true) rs → Each (λ c. Whole (c .resource)) (startable b a ready q t rs)
+    unfolding startable startsThere
+    startable-whole q t [] each-end = each-end
+    startable-whole q t (r ∷ rs) (each-on o os) = go (startsThere b a ready q r t) refl (startable-whole q t rs os)
+      where
+        go : (p : Bool) → startsThere b a ready q r t ≡ p → Each (λ c. Whole (c .resource)) (startable b a ready q t rs) → Each (λ c. Whole (c .resource)) (cond p (candidateAt a t r ∷ startable b a ready q t rs) (startable b a ready q t rs))
+        go true e i = each-on (record { itself = o; companions = and-split (every (onBoard b) (companionsOf r)) _ (and-split (serves q (r .number) (r .kind) (r .skills)) _ e .1) .0 }) i
+        go false e i = i
+
+    held-whole : (q : ResourceRequirement) (cs : List Candidate) → Each (λ c. Whole (c .resource)) cs → Each {A = Held} (λ h. Whole (h .resource)) (map (heldFor q) cs)
+    held-whole q [] each-end = each-end
+    held-whole q (c ∷ cs) (each-on p z) = each-on p (held-whole q cs z)
+
+    module _ (v : board.valid b ≡ true) where
+      on-board : Each (λ r. onBoard b (r .number) ≡ true) (resourcesOf b)
+      unfolding isAt
+      on-board = each-index (λ r. onBoard b (r .number) ≡ true) (b .len) (b .resources) (λ i l m. ap isAt (lookup-is b v i l))
+
+      pub held-at-whole : (qs : List ResourceRequirement) (t : ℕ) → Each (λ h. Whole (h .resource)) (heldAt b a ready qs t)
+      unfolding heldAt holdFirst
+      held-at-whole [] t = each-end
+      held-at-whole (q ∷ qs) t =
+          let cs = startable b a ready q t (resourcesOf b) in
+          each-append {A = Held} (λ h. Whole (h .resource)) (holdFirst q (sort cs)) (heldAt b a ready qs t)
+          (held-whole q (take (q .quantity) (sort cs)) (each-take (λ c. Whole (c .resource)) (q .quantity) (sort cs) (each-sort (λ c. Whole (c .resource)) [] cs each-end (startable-whole q t (resourcesOf b) on-board))))
+          (held-at-whole qs t)
+
+  abbrev On : ℕ → Type 0
+  On n = onBoard b n ≡ true
+
+  all-on : (cs : List ℕ) → every (onBoard b) cs ≡ true → Each On cs
+  unfolding every
+  all-on [] e = each-end
+  all-on (c ∷ cs) e = let w = and-split (onBoard b c) (every (onBoard b) cs) e in each-on (w .0) (all-on cs (w .1))
+
+  companions-on : (hs : List Held) → Each (λ h. Whole (h .resource)) hs → Each On (allCompanions hs)
+  unfolding allCompanions
+  companions-on [] each-end = each-end
+  companions-on (h ∷ hs) (each-on p z) = each-append On (companionsOf (h .resource)) (allCompanions hs) (all-on (companionsOf (h .resource)) (p .companions)) (companions-on hs z)
+
+  join-on : (held joined cs : List ℕ) → Each On joined → Each On cs → Each On (joinEach held joined cs)
+  unfolding joinEach
+  join-on held joined [] j each-end = j
+  join-on held joined (c ∷ cs) j (each-on p z) = go (among c held || among c joined) (join-on held joined cs j z) (join-on held (joined ++ (c ∷ [])) cs (each-append On joined (c ∷ []) j (each-on p each-end)) z)
+    where
+      go : (q : Bool) → Each On (joinEach held joined cs) → Each On (joinEach held (joined ++ (c ∷ [])) cs) → Each On (joinEach held (cond q joined (joined ++ (c ∷ []))) cs)
+      go true x y = x
+      go false x y = y
+
+  held-shares : (v : board.valid b ≡ true) (category setup : ℕ) (hs : List Held) → Each (λ h. Whole (h .resource)) hs → Sound (map (shareOf b) (heldEntries category setup hs))
+  held-shares v category setup [] each-end = each-end
+  held-shares v category setup (h ∷ hs) (each-on p z) = each-on (on-valid b v (h .resource .number) (p .itself)) (held-shares v category setup hs z)
+
+  companion-shares : (v : board.valid b ≡ true) (cs : List ℕ) → Each On cs → Sound (map (shareOf b) (map companionEntry cs))
+  companion-shares v [] each-end = each-end
+  companion-shares v (c ∷ cs) (each-on p z) = each-on (on-valid b v c p) (companion-shares v cs z)
+
+  map-append : (xs ys : List Entry) → sharesOf b (xs ++ ys) ≡ sharesOf b xs ++ sharesOf b ys
+  map-append [] ys = refl
+  map-append (x ∷ xs) ys = rw (map-append xs ys) refl
+
+  -- the diaries of the entries keep the rules
+  pub entries-sound : (v : board.valid b ≡ true) (a : Activity) (hs : List Held) → Each (λ h. Whole (h .resource)) hs → Sound (sharesOf b (entriesOf a hs))
+  unfolding entriesOf companionEntries
+  entries-sound v a hs z =
+      let E = heldEntries (a .category) (durationTogether a hs .setup) hs in
+      let J = joinEach (numbersOf hs) [] (allCompanions hs) in
+      subst Sound (sym (map-append E (map companionEntry J)))
+      (each-append (λ x. timeline.valid (x .timeline) ≡ true) (sharesOf b E) (sharesOf b (map companionEntry J)) (held-shares v (a .category) (durationTogether a hs .setup) hs z) (companion-shares v J (join-on (numbersOf hs) [] (allCompanions hs) each-end (companions-on hs z))))

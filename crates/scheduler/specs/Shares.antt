@@ -1,0 +1,26 @@
+-- How the code reads diaries with the units wanted of them: two arrays and a length.
+use Prim.Native.Nat.{ℕ, zero, suc, _≤_, _<_}
+use mathlib.Core.Path.{_≡_}
+use mathlib.Core.Bool.{Bool, true, cond}
+use mathlib.Core.List.{List, [], _∷_, _++_}
+use lib.ListN.{getD}
+use Rattle.calendar.specs.Search.{Found}
+use Rattle.timeline.specs.declared.ResourceTimeline.{ResourceTimeline}
+use Rattle.timeline.specs.Valid.{valid}
+use Rattle.timeline.specs.Earliest.{earliestFit, earliestResumable}
+use Rattle.board.specs.Resources.{noDiary}
+use Rattle.scheduler.specs.Alone.{Share}
+
+-- the least start on one diary, unbroken or resumable
+unfoldable pub startOn : Bool → ℕ → Share → ℕ → Found
+startOn resumable span x t = cond resumable (earliestResumable (x .timeline) t span (x .units)) (earliestFit (x .timeline) t span (x .units))
+
+-- the shares in the first n cells of two arrays
+unfoldable pub sharesTo : List ResourceTimeline → List ℕ → ℕ → List Share
+sharesTo ts us zero = []
+sharesTo ts us (suc n) = sharesTo ts us n ++ (record { timeline = getD ts n noDiary; units = getD us n 0 } ∷ [])
+
+-- the first n diaries keep the rules, and at least a unit is wanted of each
+pub record Wanted (ts : List ResourceTimeline) (us : List ℕ) (n : ℕ) : Type 0 where
+  pub kept : (k : ℕ) → k < n → valid (getD ts k noDiary) ≡ true
+  pub some : (k : ℕ) → k < n → 1 ≤ getD us k 0

@@ -1,0 +1,53 @@
+-- Several diaries together: past the last event nothing changes, and the least start on all of them without any bound.
+use mathlib.Core.Path.{_≡_, refl, sym, ap, _∙_}
+use mathlib.Core.Bool.{Bool, true, false, _&&_, cond}
+use mathlib.Core.List.{List, [], _∷_}
+use mathlib.Core.Logic.{_⊎_, inl, inr, ⊎-elim}
+use Prim.Native.Nat.{ℕ, zero, suc, _+_, _-_, _≤_, _<_, max}
+use native.Mathlib.Omega.{arith}
+use Rattle.calendar.specs.Basics.{and-split, and-join}
+use Rattle.calendar.specs.Search.{Found, nothing, at, leastFrom}
+use Rattle.calendar.specs.Meaning.{least-found}
+use Rattle.timeline.specs.Earliest.{fitsAt, startsAt, lastEvent}
+use Rattle.timeline.specs.Valid.{valid}
+use Rattle.timeline.proofs.Rules.{rules}
+use Rattle.timeline.proofs.Searching.{none-ever}
+use Rattle.timeline.proofs.Stepping.{Still, fits-at-back, starts-at-back, last-still}
+use Rattle.timeline.proofs.Meaning.{Earliest}
+use Rattle.scheduler.specs.Lists.{Each, each-end, each-on}
+use Rattle.scheduler.specs.Alone.{Share, canStart, allStart, lastOf, earliestOf}
+
+-- every diary keeps the rules
+abbrev pub Sound : List Share → Type 0
+Sound xs = Each (λ x. valid (x .timeline) ≡ true) xs
+
+-- nothing happens at y on any of them
+abbrev pub Calm : ℕ → List Share → Type 0
+Calm y xs = Each (λ x. Still (x .timeline) y) xs
+
+pub can-back : (resumable : Bool) (span : ℕ) (x : Share) (y : ℕ) → Still (x .timeline) (suc y) → canStart resumable span x (suc y) ≡ true → canStart resumable span x y ≡ true
+unfolding canStart
+can-back true span x y s h = starts-at-back (x .timeline) span (x .units) y s h
+can-back false span x y s h = fits-at-back (x .timeline) span (x .units) y s h
+
+pub all-back : (resumable : Bool) (span : ℕ) (xs : List Share) (y : ℕ) → Calm (suc y) xs → allStart resumable span xs (suc y) ≡ true → allStart resumable span xs y ≡ true
+unfolding allStart
+all-back resumable span [] y each-end h = refl
+all-back resumable span (x ∷ xs) y (each-on s c) h =
+    let w = and-split _ _ h in
+    and-join _ _ (can-back resumable span x y s (w .0)) (all-back resumable span xs y c (w .1))
+
+pub last-calm : (xs : List Share) → Sound xs → (y : ℕ) → lastOf xs ≤ y → Calm (suc y) xs
+unfolding lastOf
+last-calm [] each-end y l = each-end
+last-calm (x ∷ xs) (each-on v s) y l = each-on (last-still (x .timeline) (rules (x .timeline) v) y (omega arith)) (last-calm xs s y (omega arith))
+
+module _ (resumable : Bool) (span : ℕ) (xs : List Share) (v : Sound xs) (from : ℕ) where
+  -- the least start on all of them, and nothing only if there is none at all
+  pub together-found : (s : ℕ) → earliestOf resumable span xs from ≡ at s → Earliest (allStart resumable span xs) from s
+  unfolding earliestOf
+  together-found s e = let r = least-found (allStart resumable span xs) from (suc (lastOf xs - from)) s e in record { low = r .low; holds = r .holds; first = r .first }
+
+  pub together-none : earliestOf resumable span xs from ≡ nothing → (x : ℕ) → from ≤ x → allStart resumable span xs x ≡ false
+  unfolding earliestOf
+  together-none e = none-ever (allStart resumable span xs) from (lastOf xs) (λ y l. all-back resumable span xs y (last-calm xs v y l)) e

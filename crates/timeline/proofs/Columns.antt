@@ -1,0 +1,173 @@
+-- The columns of a diary, lent: what its rules say of them, and sums over the bookings that a test picks, from a cell on and up to a
+-- cell from which none is picked.
+use mathlib.Core.Path.{_≡_, refl, sym, _∙_}
+use mathlib.Core.Bool.{Bool, true, false, cond}
+use mathlib.Core.List.{List, [], _∷_, _++_}
+use mathlib.Core.Logic.{_⊎_, ⊎-elim}
+use Prim.Native.Nat.{ℕ, zero, suc, _+_, _-_, _*_, _≤_, _<_, max}
+use native.Mathlib.Nat.{eq-or-lt-of-le}
+use native.Mathlib.Numerals.{add-one}
+use native.Mathlib.Omega.{arith}
+use lib.ListN.{getD}
+use lib.Dec.{ltb}
+use borrow.Author.Tests.{lt-ltb, ltb-true}
+use Rattle.calendar.specs.Basics.{no-way, and-split}
+use Rattle.joint.specs.Sweep.{Rising}
+use Rattle.timeline.specs.declared.ResourceTimeline.{ResourceTimeline}
+use Rattle.timeline.specs.Bookings.{Booking, bookingAt, bookingsTo, bookings, latestEnd}
+use Rattle.timeline.specs.Valid.{before}
+use Rattle.timeline.specs.Free.{overlaps, onAt, load}
+use Rattle.timeline.specs.Steps.{overlapping, Before, Columns, From}
+use Rattle.timeline.proofs.Rules.{Rules}
+use Rattle.timeline.proofs.Rows.{rows-step}
+use Rattle.timeline.proofs.Loading.{on, is-on}
+
+-- cells that do not fall from one to the next never fall
+rise : (xs : List ℕ) (n : ℕ) → ((k : ℕ) → k < n → before xs k ≤ getD xs k 0) → (i d : ℕ) → i + d < n → getD xs i 0 ≤ getD xs (i + d) 0
+unfolding before
+rise xs n f i zero l =
+    let e : i + 0 ≡ i = omega arith in
+    rw e (omega arith)
+rise xs n f i (suc d) l =
+    let e : i + suc d ≡ suc (i + d) = omega arith in
+    rw e (omega (arith, rise xs n f i d (omega arith), f (suc (i + d)) (omega arith)))
+
+rising : (xs : List ℕ) (n : ℕ) → ((k : ℕ) → k < n → before xs k ≤ getD xs k 0) → Rising xs n
+rising xs n f j k a b =
+    let e : j + (k - j) ≡ k = omega arith in
+    rw e at (rise xs n f j (k - j) (omega arith))
+
+-- the columns of a diary that keeps the rules
+pub columns : (t : ResourceTimeline) → Rules t → Columns (t .starts) (t .ends) (t .units) (t .latest) (t .len)
+columns t rs = record {
+  room = rs .room;
+  order = λ k h. rs .filled k h .order;
+  few = λ k h. rs .filled k h .few;
+  starts = rising (t .starts) (t .len) (λ k h. rs .filled k h .sorted);
+  ends = λ k h. omega (arith, rs .filled k h .latest);
+  latest = rising (t .latest) (t .len) (λ k h. omega (arith, rs .filled k h .latest));
+}
+
+-- the cells before the first whose latest end is at s or later end before s
+pub from-cell : (ss es us ls : List ℕ) (n i s : ℕ) → Columns ss es us ls n → Before ls n s i → From ss es us n i s
+from-cell ss es us ls n i s c b = record {
+  room = c .room;
+  order = c .order;
+  few = c .few;
+  starts = c .starts;
+  first = b .few;
+  past = λ k h. omega (arith, c .ends k (omega (arith, b .few)), b .low k h);
+}
+
+-- the latest end of the first n bookings is that of the last of them
+latest-snoc : (bs : List Booking) (b : Booking) → latestEnd (bs ++ (b ∷ [])) ≡ max (latestEnd bs) (b .end)
+unfolding latestEnd
+latest-snoc [] b = omega arith
+latest-snoc (a ∷ bs) b = rw (latest-snoc bs b) (omega arith)
+
+latest-to : (t : ResourceTimeline) → Rules t → (n : ℕ) → n ≤ t .len → latestEnd (bookingsTo (t .starts) (t .ends) (t .units) n) ≡ before (t .latest) n
+unfolding bookingsTo latestEnd before
+latest-to t rs zero h = refl
+latest-to t rs (suc n) h =
+    let e = latest-snoc (bookingsTo (t .starts) (t .ends) (t .units) n) (bookingAt (t .starts) (t .ends) (t .units) n) in
+    omega (arith, e, latest-to t rs n (omega arith), rs .filled n (omega arith) .latest)
+
+pub latest-last : (t : ResourceTimeline) → Rules t → latestEnd (bookings t) ≡ before (t .latest) (t .len)
+latest-last t rs = latest-to t rs (t .len) (omega arith)
+
+-- the units of the bookings that a test picks
+unfoldable pub tally : (Booking → Bool) → List Booking → ℕ
+tally P [] = 0
+tally P (b ∷ bs) = cond (P b) (b .units) 0 + tally P bs
+
+tally-snoc : (P : Booking → Bool) (bs : List Booking) (b : Booking) → tally P (bs ++ (b ∷ [])) ≡ tally P bs + cond (P b) (b .units) 0
+unfolding tally
+tally-snoc P [] b = omega arith
+tally-snoc P (a ∷ bs) b = rw (tally-snoc P bs b) (omega arith)
+
+module _ (P : Booking → Bool) (ss es us : List ℕ) where
+  -- the sum over the first i bookings
+  pub record Tally (i sum : ℕ) : Type 0 where
+    pub is : sum ≡ tally P (bookingsTo ss es us i)
+    pub most : sum ≤ i * 10000
+
+  more : (i : ℕ) → tally P (bookingsTo ss es us (i + 1)) ≡ tally P (bookingsTo ss es us i) + cond (P (bookingAt ss es us i)) (getD us i 0) 0
+  more i = rw rows-step (tally-snoc P _ _)
+
+  pub tally-yes : (i sum r : ℕ) → Tally i sum → P (bookingAt ss es us i) ≡ true → getD us i 0 ≤ 10000 → r ≡ sum + getD us i 0 → Tally (i + 1) r
+  tally-yes i sum r t h l e =
+      let m = rw h at (more i) in
+      record { is = omega (arith, t .is); most = omega (arith, t .most) }
+
+  pub tally-no : (i sum r : ℕ) → Tally i sum → P (bookingAt ss es us i) ≡ false → r ≡ sum → Tally (i + 1) r
+  tally-no i sum r t h e =
+      let m = rw h at (more i) in
+      record { is = omega (arith, t .is); most = omega (arith, t .most) }
+
+  -- none of the first i
+  none-to : (i : ℕ) → ((k : ℕ) → k < i → P (bookingAt ss es us k) ≡ false) → tally P (bookingsTo ss es us i) ≡ 0
+  unfolding tally bookingsTo
+  none-to zero f = refl
+  none-to (suc i) f =
+      let m = rw (f i (omega arith)) at (tally-snoc P (bookingsTo ss es us i) (bookingAt ss es us i)) in
+      omega (arith, none-to i (λ k h. f k (omega arith)))
+
+  pub tally-start : (i : ℕ) → ((k : ℕ) → k < i → P (bookingAt ss es us k) ≡ false) → Tally i 0
+  tally-start i f = record { is = sym (none-to i f); most = omega arith }
+
+  -- none from i on
+  rest : (i d : ℕ) → ((k : ℕ) → i ≤ k → k < i + d → P (bookingAt ss es us k) ≡ false) → tally P (bookingsTo ss es us (i + d)) ≡ tally P (bookingsTo ss es us i)
+  unfolding bookingsTo
+  rest i zero f =
+      let e : i + 0 ≡ i = omega arith in
+      rw e refl
+  rest i (suc d) f =
+      let e : i + suc d ≡ suc (i + d) = omega arith in
+      let m = rw (f (i + d) (omega arith) (omega arith)) at (tally-snoc P (bookingsTo ss es us (i + d)) (bookingAt ss es us (i + d))) in
+      rw e (omega (arith, rest i d (λ k h l. f k h (omega arith))))
+
+  pub tally-end : (i n sum : ℕ) → Tally i sum → i ≤ n → ((k : ℕ) → i ≤ k → k < n → P (bookingAt ss es us k) ≡ false) → sum ≡ tally P (bookingsTo ss es us n)
+  tally-end i n sum t l f =
+      let e : i + (n - i) ≡ n = omega arith in
+      t .is ∙ sym (rw e at (rest i (n - i) (λ k a b. f k a (omega arith))))
+
+-- overlapping [s, e)
+abbrev pub overlapsIn : ℕ → ℕ → Booking → Bool
+overlapsIn s e b = overlaps (b .start) (b .end) s e
+
+pub tally-over : (bs : List Booking) (s e : ℕ) → tally (overlapsIn s e) bs ≡ overlapping bs s e
+unfolding tally overlapping
+tally-over [] s e = refl
+tally-over (b ∷ bs) s e = rw (tally-over bs s e) refl
+
+pub over-yes : (a z s e : ℕ) → a < e → s < z → overlaps a z s e ≡ true
+unfolding overlaps
+over-yes a z s e h l = simp (lt-ltb _ _ h, lt-ltb _ _ l)
+
+pub over-past : (a z s e : ℕ) → z ≤ s → overlaps a z s e ≡ false
+unfolding overlaps
+over-past a z s e h = no-way _ (λ t. absurd (omega (arith, ltb-true s z (and-split (ltb a e) (ltb s z) t .1))))
+
+pub over-ahead : (a z s e : ℕ) → e ≤ a → overlaps a z s e ≡ false
+unfolding overlaps
+over-ahead a z s e h = no-way _ (λ t. absurd (omega (arith, ltb-true a e (and-split (ltb a e) (ltb s z) t .0))))
+
+-- on at p of [s, e)
+abbrev pub onIn : ℕ → ℕ → ℕ → Booking → Bool
+onIn s e p b = onAt (b .start) (b .end) s e p
+
+pub tally-load : (bs : List Booking) (s e p : ℕ) → tally (onIn s e p) bs ≡ load bs s e p
+unfolding tally load
+tally-load [] s e p = refl
+tally-load (b ∷ bs) s e p = rw (tally-load bs s e p) refl
+
+pub on-past : (a z s e p : ℕ) → s ≤ p → z ≤ p → onAt a z s e p ≡ false
+on-past a z s e p g h = no-way _ (λ t. absurd (omega (arith, on a z s e p t .to)))
+
+pub on-ahead : (a z s e p : ℕ) → e ≤ a ⊎ p < a → onAt a z s e p ≡ false
+on-ahead a z s e p h =
+    no-way _
+    (λ t. ⊎-elim (λ (l : e ≤ a). absurd (omega (arith, on a z s e p t .starts))) (λ (l : p < a). absurd (omega (arith, on a z s e p t .from))) h)
+
+pub on-yes : (a z s e p : ℕ) → s ≤ p → a < e → a ≤ p → p < z → onAt a z s e p ≡ true
+on-yes a z s e p g h l m = is-on a z s e p (record { starts = h; ends = omega arith; from = l; to = m })

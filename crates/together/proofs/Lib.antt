@@ -1,0 +1,2 @@
+-- The proofs of several diaries together.
+pub mod Starting
