@@ -9,6 +9,7 @@ pub mod Lists
 pub mod Together
 pub mod Ranking
 pub mod Shares
+pub mod Holds
 pub mod Plain
 pub mod Answering
 pub mod Rounds

@@ -3,6 +3,13 @@
 ghost use mathlib.Core.Path.{_≡_};
 ghost use Rattle.scheduler.specs.Placing.{rowOf};
 
+// A resource held, by its place on the board, with its start and the units wanted of it.
+pub struct Hold {
+    pub place: usize,
+    pub start: u64,
+    pub usage: u32,
+}
+
 // An entry of a placement: resource, setup, units, companion or not.
 pub struct Entry {
     pub number: u8,

@@ -1,0 +1,2 @@
+-- What the code keeps of each resource alone.
+pub mod Plans

@@ -1,0 +1,182 @@
+-- Companions that join once each: at most sixteen, for they are resource numbers.
+use mathlib.Core.Path.{_≡_, refl, sym, ap, _∙_}
+use mathlib.Core.Bool.{Bool, true, false, _||_, cond}
+use mathlib.Core.List.{List, [], _∷_, _++_, map, append-assoc, append-nil}
+use mathlib.Core.Logic.{⊎-elim}
+use Prim.Native.Nat.{ℕ, zero, suc, _+_, _-_, _≤_, _<_, max}
+use native.Mathlib.Omega.{arith}
+use native.Mathlib.Nat.{eq-or-lt-of-le}
+use borrow.Author.Tests.{lt-ltb, le-ltb, eq-eqb, ne-eqb}
+use lib.ListN.{length, getD, set, take, drop, length-set, length-append}
+use lib.Seq.{take-suc-set}
+use lib.Dec.{eqb, ltb}
+use Rattle.calendar.specs.Basics.{lt-or-ge, same-or-not}
+use Rattle.scheduler.specs.declared.Entry.{Entry}
+use Rattle.scheduler.specs.Fitting.{greatestSetup, among, joinEach, companionEntry}
+use Rattle.scheduler.specs.Tests.{or-right}
+use Rattle.entries.specs.Parts.{noEntry, numberIn}
+use Rattle.entries.proofs.Cells.{map-append, map-map, take-next, take-split}
+
+or-assoc : (p q r : Bool) → (p || q) || r ≡ p || (q || r)
+or-assoc true q r = refl
+or-assoc false q r = refl
+
+pub among-append : (n : ℕ) (xs ys : List ℕ) → among n (xs ++ ys) ≡ among n xs || among n ys
+unfolding among
+among-append n [] ys = refl
+among-append n (x ∷ xs) ys = ap (λ (p : Bool). eqb x n || p) (among-append n xs ys) ∙ sym (or-assoc (eqb x n) (among n xs) (among n ys))
+
+pub join-last : (held joined cs : List ℕ) (c : ℕ) → joinEach held joined (cs ++ (c ∷ [])) ≡ cond (among c held || among c (joinEach held joined cs)) (joinEach held joined cs) (joinEach held joined cs ++ (c ∷ []))
+unfolding joinEach
+join-last held joined [] c = refl
+join-last held joined (x ∷ cs) c = join-last held (cond (among x held || among x joined) joined (joined ++ (x ∷ []))) cs c
+
+-- how many of the first m numbers are in a list
+unfoldable pub tally : List ℕ → ℕ → ℕ
+tally xs zero = 0
+tally xs (suc m) = tally xs m + cond (among m xs) 1 0
+
+one-most : (p : Bool) → cond p 1 0 ≤ 1
+one-most true = omega arith
+one-most false = omega arith
+
+tally-most : (xs : List ℕ) (m : ℕ) → tally xs m ≤ m
+unfolding tally
+tally-most xs zero = omega arith
+tally-most xs (suc m) = omega (arith, tally-most xs m, one-most (among m xs))
+
+tally-none : (m : ℕ) → tally [] m ≡ 0
+unfolding tally among
+tally-none zero = refl
+tally-none (suc m) = rw (tally-none m) refl
+
+-- a number that was not in it counts once
+tally-more : (xs : List ℕ) (c : ℕ) → among c xs ≡ false → (m : ℕ) → tally (xs ++ (c ∷ [])) m ≡ tally xs m + cond (ltb c m) 1 0
+unfolding tally among
+tally-more xs c e zero = rw (le-ltb c 0 (omega arith)) refl
+tally-more xs c e (suc m) =
+    ⊎-elim
+    (λ (z : c ≡ m).
+    let x : among m (xs ++ (c ∷ [])) ≡ true = among-append m xs (c ∷ []) ∙ rw (← z, e, eq-eqb c c refl) refl in
+    let y : among m xs ≡ false = rw (← z) e in
+    rw (tally-more xs c e m, x, y, le-ltb c m (omega arith), lt-ltb c (suc m) (omega arith)) (omega arith))
+    (λ (z : m ≡ c → ⊥).
+    let x : among m (xs ++ (c ∷ [])) ≡ among m xs = among-append m xs (c ∷ []) ∙ rw (ne-eqb c m (λ w. z (sym w))) (or-end (among m xs)) in
+    let y : ltb c (suc m) ≡ ltb c m = same-side c m z in
+    rw (tally-more xs c e m, x, y) (omega arith))
+    (same-or-not c m)
+  where
+    or-end : (p : Bool) → p || (false || false) ≡ p
+    or-end true = refl
+    or-end false = refl
+
+    past : (k n : ℕ) → (n ≡ k → ⊥) → n ≤ k → suc n ≤ k
+    past k n h l = ⊎-elim (λ (z : n ≡ k). absurd (h z)) (λ (z : n < k). z) (eq-or-lt-of-le l)
+
+    same-side : (k n : ℕ) → (n ≡ k → ⊥) → ltb k (suc n) ≡ ltb k n
+    same-side k n h =
+        ⊎-elim
+        (λ (l : k < n). lt-ltb k (suc n) (omega arith) ∙ sym (lt-ltb k n l))
+        (λ (l : n ≤ k). le-ltb k (suc n) (past k n h l) ∙ sym (le-ltb k n l))
+        (lt-or-ge k n)
+
+-- k cells of xs are those of es and the joined ones, each once
+pub record Joined (es : List Entry) (n : ℕ) (js : List ℕ) (xs : List Entry) (k : ℕ) : Type 0 where
+  pub long : length xs ≡ 24
+  pub first : n ≤ 8
+  pub count : k ≡ n + length js
+  pub entries : take k xs ≡ es ++ map companionEntry js
+  pub once : length js ≡ tally js 16
+
+pub joined-none : (n : ℕ) (xs : List Entry) → n ≤ 8 → length xs ≡ 24 → Joined (take n xs) n [] xs n
+joined-none n xs l e = record { long = e; first = l; count = omega arith; entries = sym (append-nil (take n xs)); once = sym (tally-none 16) }
+
+module _ (es : List Entry) (n : ℕ) (js : List ℕ) (xs : List Entry) (k : ℕ) (j : Joined es n js xs k) where
+  pub joined-few : k ≤ 24
+  joined-few = omega (arith, j .first, j .count, j .once, tally-most js 16)
+
+  -- those already there
+  pub joined-numbers : (c : ℕ) → among c (map numberIn (take k xs)) ≡ among c (map numberIn es) || among c js
+  joined-numbers c =
+      ap (λ (ys : List Entry). among c (map numberIn ys)) (j .entries)
+      ∙ ap (among c) (map-append numberIn es (map companionEntry js) ∙ ap (λ (ys : List ℕ). map numberIn es ++ ys) (map-map companionEntry numberIn js ∙ map-same js))
+      ∙ among-append c (map numberIn es) js
+    where
+      map-same : (ys : List ℕ) → map (λ y. numberIn (companionEntry y)) ys ≡ ys
+      map-same [] = refl
+      map-same (y ∷ ys) = ap {B = List ℕ} (λ r. y ∷ r) (map-same ys)
+
+  module _ (c : ℕ) (l : c < 16) (new : among c js ≡ false) where
+    more : length (js ++ (c ∷ [])) ≡ tally (js ++ (c ∷ [])) 16
+    more = length-append js (c ∷ []) ∙ sym (tally-more js c new 16 ∙ rw (lt-ltb c 16 l) (omega (arith, j .once)))
+
+    pub joined-room : k < 24
+    joined-room = omega (arith, j .first, j .count, more, length-append js (c ∷ []), tally-most (js ++ (c ∷ [])) 16)
+
+    pub joined-on : Joined es n (js ++ (c ∷ [])) (set xs k (companionEntry c)) (k + 1)
+    joined-on = record {
+      long = length-set xs k (companionEntry c) ∙ j .long;
+      first = j .first;
+      count = omega (arith, j .count, length-append js (c ∷ []));
+      entries =
+          let z : k + 1 ≡ suc k = omega arith in
+          let w : map companionEntry (js ++ (c ∷ [])) ≡ map companionEntry js ++ (companionEntry c ∷ []) = map-append companionEntry js (c ∷ []) in
+          rw (z, w, take-suc-set xs k (companionEntry c) (omega (arith, j .long, joined-room)), j .entries) (append-assoc es (map companionEntry js) (companionEntry c ∷ []));
+      once = more;
+    }
+
+pub greatest-last : (es : List Entry) (e : Entry) → greatestSetup (es ++ (e ∷ [])) ≡ max (greatestSetup es) (e .setup)
+unfolding greatestSetup
+greatest-last [] e = omega arith
+greatest-last (x ∷ es) e = rw (greatest-last es e) (omega arith)
+
+-- one entry more is looked at
+module _ (es : List Entry) (number i : ℕ) (l : i < length es) where
+  among-next : among number (map numberIn (take (i + 1) es)) ≡ among number (map numberIn (take i es)) || eqb (getD es i noEntry .number) number
+  unfolding among
+  among-next =
+      ap (λ (xs : List Entry). among number (map numberIn xs)) (take-next es i noEntry l)
+      ∙ ap (among number) (map-append numberIn (take i es) (getD es i noEntry ∷ []))
+      ∙ among-append number (map numberIn (take i es)) (getD es i noEntry .number ∷ [])
+      ∙ ap (λ (p : Bool). among number (map numberIn (take i es)) || p) (or-false (eqb (getD es i noEntry .number) number))
+    where
+      or-false : (p : Bool) → p || false ≡ p
+      or-false true = refl
+      or-false false = refl
+
+  pub among-other : among number (map numberIn (take i es)) ≡ false → (getD es i noEntry .number ≡ number → ⊥) → among number (map numberIn (take (i + 1) es)) ≡ false
+  among-other e h = among-next ∙ rw (e, ne-eqb (getD es i noEntry .number) number h) refl
+
+  pub among-found : among number (map numberIn (take i es)) ≡ false → getD es i noEntry .number ≡ number → (n : ℕ) → i < n → among number (map numberIn (take n es)) ≡ true
+  among-found e h n m =
+      ap (λ (xs : List Entry). among number (map numberIn xs)) (take-split es i n m)
+      ∙ ap (among number) (map-append numberIn (take (i + 1) es) (take (n - (i + 1)) (drop (i + 1) es)))
+      ∙ among-append number (map numberIn (take (i + 1) es)) (map numberIn (take (n - (i + 1)) (drop (i + 1) es)))
+      ∙ rw (among-next, e, eq-eqb (getD es i noEntry .number) number h) refl
+
+pub greatest-next : (es : List Entry) (i : ℕ) → i < length es → greatestSetup (take (i + 1) es) ≡ max (greatestSetup (take i es)) (getD es i noEntry .setup)
+greatest-next es i l = ap greatestSetup (take-next es i noEntry l) ∙ greatest-last (take i es) (getD es i noEntry)
+
+-- one companion more
+module _ (es : List Entry) (n : ℕ) (cs : List ℕ) (i : ℕ) (xs : List Entry) (k : ℕ) (l : i < length cs) (j : Joined es n (joinEach (map numberIn es) [] (take i cs)) xs k) where
+  abbrev js : List ℕ
+  js = joinEach (map numberIn es) [] (take i cs)
+
+  abbrev c : ℕ
+  c = getD cs i 0
+
+  next-is : (p : Bool) → among c (map numberIn (take k xs)) ≡ p → joinEach (map numberIn es) [] (take (i + 1) cs) ≡ cond p js (js ++ (c ∷ []))
+  next-is p e = rw (take-next cs i 0 l, ← e, joined-numbers es n js xs k j c) (join-last (map numberIn es) [] (take i cs) c)
+
+  pub join-skip : among c (map numberIn (take k xs)) ≡ true → Joined es n (joinEach (map numberIn es) [] (take (i + 1) cs)) xs k
+  join-skip e = rw (next-is true e) j
+
+  module _ (e : among c (map numberIn (take k xs)) ≡ false) (small : c < 16) where
+    new : among c js ≡ false
+    new = or-right (among c (map numberIn es)) (among c js) (sym (joined-numbers es n js xs k j c) ∙ e)
+
+    pub join-room : k < 24
+    join-room = joined-room es n js xs k j c small new
+
+    pub join-on : Joined es n (joinEach (map numberIn es) [] (take (i + 1) cs)) (set xs k (companionEntry c)) (k + 1)
+    join-on = rw (next-is false e) (joined-on es n js xs k j c small new)

@@ -1,0 +1,2 @@
+-- How the code gathers the entries of those held.
+pub mod Parts

@@ -1,0 +1,44 @@
+-- What the code takes from the board for the entries of those held.
+use Prim.Native.Nat.{ℕ, _≤_, _<_}
+use mathlib.Core.Path.{_≡_}
+use mathlib.Core.Bool.{Bool, true, false, cond}
+use mathlib.Core.List.{List}
+use lib.ListN.{length, getD, take}
+use Rattle.board.specs.declared.Board.{Board}
+use Rattle.board.specs.Resources.{resourceAt}
+use Rattle.board.specs.Setups.{setupOn}
+use Rattle.scheduler.specs.declared.Entry.{Entry}
+use Rattle.scheduler.specs.declared.Hold.{Hold}
+use Rattle.scheduler.specs.Fitting.{numbersOf, allCompanions}
+use Rattle.scheduler.specs.Lists.{Each}
+use Rattle.scheduler.specs.Holds.{noHold, heldTo}
+use Rattle.entries.specs.declared.Parts.{Parts}
+
+-- what is read past an array's end
+abbrev pub noEntry : Entry
+noEntry = record { number = 0; setup = 0; units = 0; companion = false }
+
+abbrev pub numberIn : Entry → ℕ
+numberIn e = e .number
+
+-- the setup kept for the k-th held; without a matrix it is `own`
+abbrev pub keptSetup : Parts → ℕ → ℕ → ℕ
+keptSetup p own k = cond (getD (p .fixed) k false) (getD (p .setups) k 0) own
+
+-- the entry of the k-th held
+abbrev pub setupAt : Parts → List Hold → ℕ → ℕ → Entry
+setupAt p hs own k = record { number = getD (p .numbers) k 0; setup = keptSetup p own k; units = getD hs k noHold .usage; companion = false }
+
+-- a resource number
+abbrev pub Small : ℕ → Type 0
+Small n = n < 16
+
+-- what was taken is the board's
+pub record Parted (b : Board) (category : ℕ) (hs : List Hold) (n : ℕ) (p : Parts) : Type 0 where
+  pub held : length hs ≡ 8
+  pub long : length (p .numbers) ≡ 8
+  pub numbers : (k : ℕ) → k < n → getD (p .numbers) k 0 ≡ resourceAt b (getD hs k noHold .place) .number
+  pub setups : (k : ℕ) → k < n → (own : ℕ) → keptSetup p own k ≡ setupOn (resourceAt b (getD hs k noHold .place)) category own
+  pub companions : take (p .companions .len) (p .companions .numbers) ≡ allCompanions (heldTo b hs n)
+  pub few : p .companions .len ≤ 32
+  pub small : Each Small (take (p .companions .len) (p .companions .numbers))

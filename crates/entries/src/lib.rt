@@ -1,0 +1,248 @@
+// The entries of those held together: their setups and span, the companions that join, and their diaries (the second half of
+// `place_activity` in scheduler/simple.rs; 01, 'Fitting').
+use activity::Activity;
+use board::Board;
+use calendar::Calendar;
+use fitting::Closing;
+use scheduler::Entry;
+use scheduler::Hold;
+ghost use mathlib.Core.Path.{_≡_};
+ghost use mathlib.Core.Bool.{true};
+ghost use mathlib.Core.List.{[], _∷_, _++_, map};
+ghost use Prim.Native.Nat.{ℕ, _+_, _^_, _≤_, _<_};
+ghost use lib.ListN.{length, getD, take};
+ghost use Rattle.calendar.specs.Valid as calendar;
+ghost use Rattle.activity.specs.Lawful.{Lawful};
+ghost use Rattle.board.specs.Resources.{onBoard};
+ghost use Rattle.board.specs.Valid.{valid};
+ghost use Rattle.scheduler.specs.Fitting.{greatestSetup, among, joinEach, companionEntry, entriesOf, spanTogether, sharesOf};
+ghost use Rattle.scheduler.specs.Holds.{heldTo, OnPlaces};
+ghost use Rattle.scheduler.specs.Lists.{Each};
+ghost use Rattle.scheduler.specs.Shares.{sharesTo, Wanted};
+ghost use Rattle.scheduler.specs.Owning.{ownShare};
+ghost use Rattle.alone.specs.Plans.{Known};
+ghost use Rattle.entries.specs.Parts.{noEntry, numberIn, setupAt, Small, Parted};
+
+// The first `count` are the entries.
+pub struct Entries {
+    pub entries: [Entry; 24],
+    pub count: usize,
+}
+
+// The entries of a placement, and its span.
+pub struct Together {
+    pub entries: Entries,
+    pub span: u64,
+}
+
+// The companions of those held, one behind another.
+struct Companions {
+    numbers: [u8; 32],
+    len: usize,
+}
+
+// What the entries take from the board: the numbers held, the setups of those with a matrix, and the companions.
+struct Parts {
+    numbers: [u8; 8],
+    fixed: [bool; 8],
+    setups: [u64; 8],
+    companions: Companions,
+}
+
+pub fn no_entries() -> Entries
+    ensures { λ r. ⌜ (r .count ≡ 0) × (length (r .entries) ≡ 24) ⌝ }
+{
+    let none = Entry {
+        number: 0,
+        setup: 0,
+        units: 0,
+        companion: false,
+    };
+    Entries {
+        entries: [none; 24],
+        count: 0,
+    }
+}
+
+// The first `count` of `more` go behind the list.
+fn push_each(list: Companions, more: [u8; 4], count: usize) -> Companions
+    requires { ⌜ (count ≤ 4) × (list .len + count ≤ 32) × Each Small (take (list .len) (list .numbers)) × ((k : ℕ) → k < count → Small (getD more k 0)) ⌝ }
+    ensures { λ r. ⌜ (r .len ≡ list .len + count) × (take (r .len) (r .numbers) ≡ take (list .len) (list .numbers) ++ take count more) × Each Small (take (r .len) (r .numbers)) ⌝ }
+{
+    let mut numbers = list.numbers;
+    let n = list.len;
+    let mut i: usize = 0;
+    while i < count {
+        numbers[n + i] = more[i];
+        i += 1;
+    }
+    Companions {
+        numbers: numbers,
+        len: n + count,
+    }
+}
+
+// One pass over the board.
+fn parts_of(b: Board, category: u8, held: [Hold; 8], count: usize) -> Parts
+    requires { ⌜ (valid b ≡ true) × (category ≤ 15) × (count ≤ 8) × OnPlaces b held count ⌝ }
+    ensures { λ r. ⌜ Parted b category held count r ⌝ }
+{
+    let mut numbers: [u8; 8] = [0; 8];
+    let mut fixed: [bool; 8] = [false; 8];
+    let mut setups: [u64; 8] = [0; 8];
+    let mut list = Companions {
+        numbers: [0; 32],
+        len: 0,
+    };
+    let mut i: usize = 0;
+    while i < count {
+        let h = held[i];
+        let place = h.place;
+        let r = b.resources[place];
+        numbers[i] = r.number;
+        let matrix = r.matrix;
+        let last = r.last;
+        fixed[i] = matrix.present;
+        setups[i] = board::core::setup_ms(matrix, last, category, 0);
+        let companions = r.companions;
+        list = push_each(list, companions, r.count);
+        i += 1;
+    }
+    Parts {
+        numbers: numbers,
+        fixed: fixed,
+        setups: setups,
+        companions: list,
+    }
+}
+
+// The entries of those held, `own` being the setup without a matrix.
+fn held_entries(p: Parts, held: [Hold; 8], count: usize, own: u64) -> Entries
+    requires { ⌜ count ≤ 8 ⌝ }
+    ensures { λ r. ⌜ (r .count ≡ count) × (length (r .entries) ≡ 24) × ((k : ℕ) → k < count → getD (r .entries) k noEntry ≡ setupAt p held own k) ⌝ }
+{
+    let numbers = p.numbers;
+    let fixed = p.fixed;
+    let setups = p.setups;
+    let mut e = no_entries();
+    let mut i: usize = 0;
+    while i < count {
+        let h = held[i];
+        let setup = if fixed[i] { setups[i] } else { own };
+        e.entries[i] = Entry {
+            number: numbers[i],
+            setup: setup,
+            units: h.usage,
+            companion: false,
+        };
+        i += 1;
+    }
+    e.count = count;
+    e
+}
+
+fn greatest_setup(e: Entries) -> u64
+    requires { ⌜ e .count ≤ 24 ⌝ }
+    ensures { λ r. ⌜ r ≡ greatestSetup (take (e .count) (e .entries)) ⌝ }
+{
+    let n = e.count;
+    let mut most: u64 = 0;
+    let mut i: usize = 0;
+    while i < n {
+        let x = e.entries[i];
+        if most < x.setup {
+            most = x.setup;
+        }
+        i += 1;
+    }
+    most
+}
+
+fn is_among(e: Entries, number: u8) -> bool
+    requires { ⌜ e .count ≤ 24 ⌝ }
+    ensures { λ r. ⌜ r ≡ among number (map numberIn (take (e .count) (e .entries))) ⌝ }
+{
+    let n = e.count;
+    let mut i: usize = 0;
+    while i < n {
+        let x = e.entries[i];
+        if x.number == number {
+            return true;
+        }
+        i += 1;
+    }
+    false
+}
+
+// Companions not already there join once each, setup 0, unit 1.
+fn join_each(e: Entries, list: Companions) -> Entries
+    requires { ⌜ (e .count ≤ 8) × (list .len ≤ 32) × Each Small (take (list .len) (list .numbers)) ⌝ }
+    ensures { λ r. ⌜ (r .count ≤ 24) × (take (r .count) (r .entries) ≡ take (e .count) (e .entries) ++ map companionEntry (joinEach (map numberIn (take (e .count) (e .entries))) [] (take (list .len) (list .numbers)))) ⌝ }
+{
+    let n = list.len;
+    let mut more = e;
+    let mut i: usize = 0;
+    while i < n {
+        let number = list.numbers[i];
+        if !is_among(more, number) {
+            let k = more.count;
+            more.entries[k] = Entry {
+                number: number,
+                setup: 0,
+                units: 1,
+                companion: true,
+            };
+            more.count = k + 1;
+        }
+        i += 1;
+    }
+    more
+}
+
+// The entries of those held and their companions, and the span: the greatest setup among those held, process and teardown.
+pub fn entries_of(b: Board, a: Activity, held: [Hold; 8], count: usize) -> Together
+    requires { ⌜ (valid b ≡ true) × Lawful (a .duration) (a .timings) × (a .category ≤ 15) × (count ≤ 8) × OnPlaces b held count ⌝ }
+    ensures { λ r. ⌜ (r .entries .count ≤ 24) × (take (r .entries .count) (r .entries .entries) ≡ entriesOf a (heldTo b held count)) ⌝ }
+    ensures { λ r. ⌜ (r .span ≡ spanTogether a (heldTo b held count)) × (r .span ≤ 2 ^ 53) ⌝ }
+{
+    let p = parts_of(b, a.category, held, count);
+    let base = a.duration;
+    let timings = a.timings;
+    let numbers = p.numbers;
+    let d = activity::core::duration_on(base, timings, numbers, count);
+    let e = held_entries(p, held, count, d.setup);
+    let span = greatest_setup(e) + d.process + d.teardown;
+    let list = p.companions;
+    let all = join_each(e, list);
+    Together {
+        entries: all,
+        span: span,
+    }
+}
+
+// The order's own calendar as a diary that nothing books, then the diaries of the entries.
+pub fn closing_of(b: Board, e: Entries, places: [usize; 16], own: Calendar) -> Closing
+    requires { ⌜ (valid b ≡ true) × Known b places × (calendar.valid own ≡ true) × (e .count ≤ 24) ⌝ }
+    requires { ⌜ ((k : ℕ) → k < e .count → (onBoard b (getD (e .entries) k noEntry .number) ≡ true) × (1 ≤ getD (e .entries) k noEntry .units)) ⌝ }
+    ensures { λ r. ⌜ (r .len ≤ 25) × Wanted (r .timelines) (r .units) (r .len) × (sharesTo (r .timelines) (r .units) (r .len) ≡ ownShare own ∷ sharesOf b (take (e .count) (e .entries))) ⌝ }
+{
+    let t = fitting::own_timeline(own);
+    let n = e.count;
+    let mut g = Closing {
+        timelines: [t; 25],
+        units: [1; 25],
+        len: n + 1,
+    };
+    let mut i: usize = 0;
+    while i < n {
+        let x = e.entries[i];
+        let number = x.number as usize;
+        let at = places[number];
+        let r = b.resources[at];
+        let other = r.timeline;
+        g.timelines[i + 1] = other;
+        g.units[i + 1] = x.units;
+        i += 1;
+    }
+    g
+}
