@@ -1,5 +1,4 @@
 -- The proofs of the functions.
-pub mod Filling
 mod Planning
-pub mod Gathering
+mod Gathering
 pub mod Single

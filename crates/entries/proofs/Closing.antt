@@ -21,9 +21,9 @@ use Rattle.scheduler.specs.declared.Entry.{Entry}
 use Rattle.scheduler.specs.Alone.{Share, diaryOf, resourceIn}
 use Rattle.scheduler.specs.Fitting.{shareOf, sharesOf}
 use Rattle.scheduler.specs.Shares.{sharesTo, Wanted}
-use Rattle.alone.proofs.Gathering.{shares-same}
+use Rattle.scheduler.specs.Latest.{shares-same}
 use Rattle.entries.specs.Parts.{noEntry}
-use Rattle.entries.proofs.Cells.{map-append, take-next}
+use Rattle.scheduler.specs.Arrays.{map-append, take-next}
 
 -- a number on the board, the place that is known of it, and its diary
 pub record OnIt (b : Board) (number place : ℕ) : Type 0 where

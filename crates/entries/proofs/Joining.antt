@@ -8,23 +8,16 @@ use native.Mathlib.Omega.{arith}
 use native.Mathlib.Nat.{eq-or-lt-of-le}
 use borrow.Author.Tests.{lt-ltb, le-ltb, eq-eqb, ne-eqb}
 use lib.ListN.{length, getD, set, take, drop, length-set, length-append}
-use lib.Seq.{take-suc-set}
+use lib.Seq.{take-suc-set, getD-take, length-take-le}
 use lib.Dec.{eqb, ltb}
 use Rattle.calendar.specs.Basics.{lt-or-ge, same-or-not}
 use Rattle.scheduler.specs.declared.Entry.{Entry}
 use Rattle.scheduler.specs.Fitting.{greatestSetup, among, joinEach, companionEntry}
+use Rattle.scheduler.specs.Events.{among-append}
+use Rattle.scheduler.specs.Lists.{Each}
 use Rattle.scheduler.specs.Tests.{or-right}
-use Rattle.entries.specs.Parts.{noEntry, numberIn}
-use Rattle.entries.proofs.Cells.{map-append, map-map, take-next, take-split}
-
-or-assoc : (p q r : Bool) → (p || q) || r ≡ p || (q || r)
-or-assoc true q r = refl
-or-assoc false q r = refl
-
-pub among-append : (n : ℕ) (xs ys : List ℕ) → among n (xs ++ ys) ≡ among n xs || among n ys
-unfolding among
-among-append n [] ys = refl
-among-append n (x ∷ xs) ys = ap (λ (p : Bool). eqb x n || p) (among-append n xs ys) ∙ sym (or-assoc (eqb x n) (among n xs) (among n ys))
+use Rattle.entries.specs.Parts.{noEntry, numberIn, Small}
+use Rattle.scheduler.specs.Arrays.{map-append, map-map, take-next, take-split, each-at}
 
 pub join-last : (held joined cs : List ℕ) (c : ℕ) → joinEach held joined (cs ++ (c ∷ [])) ≡ cond (among c held || among c (joinEach held joined cs)) (joinEach held joined cs) (joinEach held joined cs ++ (c ∷ []))
 unfolding joinEach
@@ -180,3 +173,6 @@ module _ (es : List Entry) (n : ℕ) (cs : List ℕ) (i : ℕ) (xs : List Entry)
 
     pub join-on : Joined es n (joinEach (map numberIn es) [] (take (i + 1) cs)) (set xs k (companionEntry c)) (k + 1)
     join-on = rw (next-is false e) (joined-on es n js xs k j c small new)
+
+pub small-at : (xs : List ℕ) (n : ℕ) → n ≤ length xs → Each Small (take n xs) → (i : ℕ) → i < n → getD xs i 0 < 16
+small-at xs n l e i m = rw (getD-take n xs i 0 m) at (each-at Small 0 (take n xs) e i (omega (arith, length-take-le n xs l)))

@@ -30,7 +30,7 @@ use Rattle.scheduler.specs.Holds.{noHold, heldOf, heldTo, OnPlaces}
 use Rattle.scheduler.specs.Lists.{Each, each-end, each-on}
 use Rattle.entries.specs.declared.Parts.{Parts}
 use Rattle.entries.specs.Parts.{noEntry, numberIn, keptSetup, setupAt, Parted}
-use Rattle.entries.proofs.Cells.{map-append, map-map, cells-map, take-next, each-cells}
+use Rattle.scheduler.specs.Arrays.{map-append, map-map, cells-map, take-next, each-cells}
 
 companions-last : (hs : List Held) (h : Held) → allCompanions (hs ++ (h ∷ [])) ≡ allCompanions hs ++ companionsOf (h .resource)
 unfolding allCompanions

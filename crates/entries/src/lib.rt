@@ -177,7 +177,7 @@ fn is_among(e: Entries, number: u8) -> bool
 // Companions not already there join once each, setup 0, unit 1.
 fn join_each(e: Entries, list: Companions) -> Entries
     requires { ⌜ (e .count ≤ 8) × (list .len ≤ 32) × Each Small (take (list .len) (list .numbers)) ⌝ }
-    ensures { λ r. ⌜ (r .count ≤ 24) × (take (r .count) (r .entries) ≡ take (e .count) (e .entries) ++ map companionEntry (joinEach (map numberIn (take (e .count) (e .entries))) [] (take (list .len) (list .numbers)))) ⌝ }
+    ensures { λ r. ⌜ (r .count ≤ 24) × (length (r .entries) ≡ 24) × (take (r .count) (r .entries) ≡ take (e .count) (e .entries) ++ map companionEntry (joinEach (map numberIn (take (e .count) (e .entries))) [] (take (list .len) (list .numbers)))) ⌝ }
 {
     let n = list.len;
     let mut more = e;
@@ -202,7 +202,7 @@ fn join_each(e: Entries, list: Companions) -> Entries
 // The entries of those held and their companions, and the span: the greatest setup among those held, process and teardown.
 pub fn entries_of(b: Board, a: Activity, held: [Hold; 8], count: usize) -> Together
     requires { ⌜ (valid b ≡ true) × Lawful (a .duration) (a .timings) × (a .category ≤ 15) × (count ≤ 8) × OnPlaces b held count ⌝ }
-    ensures { λ r. ⌜ (r .entries .count ≤ 24) × (take (r .entries .count) (r .entries .entries) ≡ entriesOf a (heldTo b held count)) ⌝ }
+    ensures { λ r. ⌜ (r .entries .count ≤ 24) × (length (r .entries .entries) ≡ 24) × (take (r .entries .count) (r .entries .entries) ≡ entriesOf a (heldTo b held count)) ⌝ }
     ensures { λ r. ⌜ (r .span ≡ spanTogether a (heldTo b held count)) × (r .span ≤ 2 ^ 53) ⌝ }
 {
     let p = parts_of(b, a.category, held, count);

@@ -18,6 +18,7 @@ use Rattle.scheduler.specs.Alone.{Share, lastOf}
 use Rattle.scheduler.specs.Fitting.{calendarOf, allFree, freeToEnd}
 use Rattle.scheduler.specs.Lists.{Each, each-end, each-on}
 use Rattle.scheduler.specs.Together.{Sound, Calm, last-calm}
+use Rattle.scheduler.specs.Latest.{last-small}
 use Rattle.scheduler.specs.Closing.{joint-back, all-free-back}
 use Rattle.scheduler.specs.Owning.{suitsOn}
 use Rattle.fitting.specs.Jointly.{endFree, jointly, ended}
@@ -83,11 +84,6 @@ jointly-back ys work y calm h = go (jointEnd (map calendarOf ys) (suc y) work) r
         let here = joint-back ys y calm (joint-end-found (map calendarOf ys) (suc y) work d e .0) in
         let r = work-end-back (lastChange (map calendarOf ys)) (joint (map calendarOf ys)) y work d (joint-changeless (map calendarOf ys)) here e in
         rw (r .1) (all-free-back ys y (r .0) d calm (r .2) g)
-
-last-small : (ys : List Share) → Sound ys → lastOf ys ≤ 2 ^ 42
-unfolding lastOf
-last-small [] each-end = omega arith
-last-small (y ∷ ys) (each-on v s) = omega (arith, last-range (y .timeline) (rules (y .timeline) v), last-small ys s)
 
 module _ (ys : List Share) (sound : Sound ys) (work from : ℕ) where
   abbrev P : ℕ → Bool

@@ -69,7 +69,7 @@ module _ (start end category : ℕ) where
   step-transport b l nothing = refl
   step-transport b l (at j) = refl
 
-  step-long : (b : Board) (l : Line) (f : Found) → length (changed b f (booked start end category l) .resources) ≡ length (b .resources)
+  pub step-long : (b : Board) (l : Line) (f : Found) → length (changed b f (booked start end category l) .resources) ≡ length (b .resources)
   unfolding changed
   step-long b l nothing = refl
   step-long b l (at j) = length-set (b .resources) j (booked start end category l (resourceAt b j))
@@ -154,7 +154,7 @@ module _ (start end category : ℕ) (w : Bookable start end category) where
     after = changed b (lookup b (l .number)) (booked start end category l)
 
     -- a number keeps its place
-    lookup-after : (n : ℕ) → lookup after n ≡ lookup b n
+    pub lookup-after : (n : ℕ) → lookup after n ≡ lookup b n
     unfolding lookupTo
     lookup-after n =
         ap (λ (k : ℕ). lookupTo after k n) (step-len start end category b l (lookup b (l .number)))
@@ -184,7 +184,7 @@ module _ (start end category : ℕ) (w : Bookable start end category) where
             let ne = eqb-false (l .number) n h in
             ap (λ (x : Resource). x .timeline .len) (step-same start end category b l j (λ z. ne (sym z ∙ lookup-means b n j e .1))) ∙ omega arith
 
-    after-keeps : diaryOf b (l .number) .len < 64 → board.valid after ≡ true
+    pub after-keeps : diaryOf b (l .number) .len < 64 → board.valid after ≡ true
     unfolding changed resourceIn booked
     after-keeps room =
         let i = place .0 in
@@ -193,11 +193,11 @@ module _ (start end category : ℕ) (w : Bookable start end category) where
         subst (λ (f : Found). board.valid (changed b f (booked start end category l)) ≡ true) (sym (place .1))
         (valid-with b i (booked start end category l r) long v (place .2) (booked-right l r (p .some) (p .few) (rules b v .right i (place .2)) t) refl)
 
-    right-after : (k : Line) → Right b k → Right after k
+    pub right-after : (k : Line) → Right b k → Right after k
     unfolding isAt
     right-after k r = record { on = ap isAt (lookup-after (k .number)) ∙ r .on; some = r .some; few = r .few }
 
-    room-after : (ls : List Line) → Room b (l ∷ ls) → Room after ls
+    pub room-after : (ls : List Line) → Room b (l ∷ ls) → Room after ls
     unfolding entriesOn isAt
     room-after ls f n o =
         let q : onBoard b n ≡ true = ap isAt (sym (lookup-after n)) ∙ o in
@@ -215,7 +215,7 @@ module _ (start end category : ℕ) (w : Bookable start end category) where
       (room-after b long v l p ls f)
 
 -- the entries passed each check
-passed : (b : Board) (ls : List Line) → every (λ l. onBoard b (l .number)) ls ≡ true → every (λ l. leb 1 (l .units) && leb (l .units) 10000) ls ≡ true → Each (Right b) ls
+pub passed : (b : Board) (ls : List Line) → every (λ l. onBoard b (l .number)) ls ≡ true → every (λ l. leb 1 (l .units) && leb (l .units) 10000) ls ≡ true → Each (Right b) ls
 unfolding every
 passed b [] e f = each-end
 passed b (l ∷ ls) e f =
@@ -235,7 +235,7 @@ named P n (l ∷ ls) e h =
     go true f g p rest = ap P (sym (eqb-true (l .number) n f)) ∙ p
     go false f g p rest = rest (omega arith)
 
-room-passed : (b : Board) (ls : List Line) → board.valid b ≡ true → every (λ l. leb (diaryOf b (l .number) .len + entriesOn (l .number) ls) 64) ls ≡ true → Room b ls
+pub room-passed : (b : Board) (ls : List Line) → board.valid b ≡ true → every (λ l. leb (diaryOf b (l .number) .len + entriesOn (l .number) ls) 64) ls ≡ true → Room b ls
 room-passed b ls v e n o =
     ⊎-elim
     (λ (h : 0 < entriesOn n ls). leb-true (diaryOf b n .len + entriesOn n ls) 64 (named (λ m. leb (diaryOf b m .len + entriesOn m ls) 64) n ls e (omega arith)))

@@ -16,7 +16,7 @@ use Rattle.timeline.proofs.Rules.{rules}
 use Rattle.timeline.proofs.Searching.{Sought, found-within}
 use Rattle.timeline.proofs.Stepping.{last-still, last-range, fits-at-back, starts-at-back}
 use Rattle.timeline.proofs.Meaning.{Earliest, fit-means, none-means, resumable-means, no-start-means}
-use Rattle.scheduler.specs.Alone.{Share, canStart, allStart, earliestOf}
+use Rattle.scheduler.specs.Alone.{Share, canStart, allStart, lastOf, earliestOf}
 use Rattle.scheduler.specs.Fitting.{among}
 use Rattle.scheduler.specs.Shares.{startOn, sharesTo, Wanted}
 use Rattle.scheduler.specs.Lists.{Each, each-end, each-on}
@@ -189,6 +189,18 @@ each-snoc P [] x each-end p = each-on p each-end
 each-snoc P (y ∷ xs) x (each-on q a) p = each-on q (each-snoc P xs x a p)
 
 -- diaries that keep the rules are sound shares
+-- nothing changes on them after 2^42
+pub last-small : (xs : List Share) → Sound xs → lastOf xs ≤ 2 ^ 42
+unfolding lastOf
+last-small [] each-end = omega arith
+last-small (x ∷ xs) (each-on v s) = omega (arith, last-range (x .timeline) (rules (x .timeline) v), last-small xs s)
+
+-- the shares in the first n cells are theirs alone
+pub shares-same : (ts : List ResourceTimeline) (us : List ℕ) (xs : List ResourceTimeline) (vs : List ℕ) (n : ℕ) → ((k : ℕ) → k < n → getD xs k noDiary ≡ getD ts k noDiary) → ((k : ℕ) → k < n → getD vs k 0 ≡ getD us k 0) → sharesTo xs vs n ≡ sharesTo ts us n
+unfolding sharesTo
+shares-same ts us xs vs zero f g = refl
+shares-same ts us xs vs (suc n) f g = rw (shares-same ts us xs vs n (λ k l. f k (omega arith)) (λ k l. g k (omega arith)), f n (omega arith), g n (omega arith)) refl
+
 pub wanted-sound : (ts : List ResourceTimeline) (us : List ℕ) (n : ℕ) → Wanted ts us n → Sound (sharesTo ts us n)
 unfolding sharesTo
 wanted-sound ts us zero w = each-end

@@ -6,6 +6,7 @@ pub mod Placing
 pub mod Committing
 pub mod Tests
 pub mod Lists
+pub mod Arrays
 pub mod Together
 pub mod Ranking
 pub mod Shares

@@ -12,21 +12,17 @@ use Rattle.calendar.specs.Meaning.{least-found}
 use Rattle.timeline.specs.declared.ResourceTimeline.{ResourceTimeline}
 use Rattle.timeline.specs.Bookings.{bookings}
 use Rattle.timeline.specs.Valid.{valid}
-use Rattle.timeline.specs.Earliest.{freeOn, fitsAt, freeTo, startsAt, lastEvent, earliestFit, earliestResumable}
+use Rattle.timeline.specs.Earliest.{fitsAt, freeTo, startsAt, lastEvent, earliestFit, earliestResumable}
 use lib.Dec.{ltb}
 use borrow.Author.Tests.{ltb-false}
 use Rattle.timeline.specs.Ask.{Reply, fit, none, refused, unbroken, ended, resumed, askRefusal, refusedOr, asked}
-use Rattle.timeline.specs.Steps.{Next, freeEnd}
 use Rattle.timeline.proofs.Rules.{rules}
 use Rattle.timeline.proofs.Loading.{free-few}
-use Rattle.timeline.proofs.Searching.{Sought, sought-on, sought-found, sought-none}
-use Rattle.timeline.proofs.Stepping.{fits-at-back, starts-at-back, next-still, last-still, last-range}
+use Rattle.timeline.proofs.Searching.{Sought, sought-found, sought-none}
+use Rattle.timeline.proofs.Stepping.{fits-at-back, starts-at-back, last-still, last-range}
 
 module _ (t : ResourceTimeline) (v : valid t ≡ true) (from span u : ℕ) where
   -- an unbroken span
-  pub fit-on : (x r : ℕ) → Sought (fitsAt t span u) from x → fitsAt t span u x ≡ false → Next t x r → Sought (fitsAt t span u) from r
-  fit-on x r s h n = sought-on (fitsAt t span u) from x r s h (n .above) (λ y a b. fits-at-back t span u y (next-still t x r y n a b))
-
   pub fit-found : (x : ℕ) → Sought (fitsAt t span u) from x → fitsAt t span u x ≡ true → earliestFit t from span u ≡ at x
   unfolding earliestFit
   fit-found x s h = sought-found (fitsAt t span u) from (lastEvent t) (λ y l. fits-at-back t span u y (last-still t (rules t v) y l)) x s h
@@ -36,9 +32,6 @@ module _ (t : ResourceTimeline) (v : valid t ≡ true) (from span u : ℕ) where
   fit-none x a b s = sought-none (fitsAt t span u) from (lastEvent t) x s (omega (arith, last-range t (rules t v)))
 
   -- resumable work
-  pub start-on : (x r : ℕ) → Sought (startsAt t span u) from x → startsAt t span u x ≡ false → Next t x r → Sought (startsAt t span u) from r
-  start-on x r s h n = sought-on (startsAt t span u) from x r s h (n .above) (λ y a b. starts-at-back t span u y (next-still t x r y n a b))
-
   pub start-found : (x : ℕ) → Sought (startsAt t span u) from x → startsAt t span u x ≡ true → earliestResumable t from span u ≡ at x
   unfolding earliestResumable
   start-found x s h = sought-found (startsAt t span u) from (lastEvent t) (λ y l. starts-at-back t span u y (last-still t (rules t v) y l)) x s h
@@ -60,39 +53,15 @@ above-no t span u y h = rw (free-few (t .capacity) (bookings t) u y (y + span) h
 pub fit-above : (t : ResourceTimeline) → valid t ≡ true → (from span u : ℕ) → from ≤ 2 ^ 43 → t .capacity < u → earliestFit t from span u ≡ nothing
 fit-above t v from span u a h = fit-none t v from span u (2 ^ 63) a (omega arith) (record { low = omega arith; none = λ y b c. above-no t span u y h })
 
--- the end of work where units are free up to it
-pub end-found : (t : ResourceTimeline) (u s e : ℕ) (f : Found) → freeEnd t u s f ≡ at e → (f ≡ at e) × (freeTo t u s f ≡ true)
-unfolding freeEnd freeTo
-end-found t u s e nothing q = absurd (differ q)
-  where
-    differ : nothing ≡ at e → ⊥
-    differ r = let z : _≡_ {A = ℕ} 0 1 = cc in omega arith
-end-found t u s e (at d) q = go (freeOn t u s d) refl q
-  where
-    go : (b : Bool) → freeOn t u s d ≡ b → cond b (at d) nothing ≡ at e → (at d ≡ at e) × (freeOn t u s d ≡ true)
-    go true h r = (r, h)
-    go false h r = absurd (let z : _≡_ {A = ℕ} 0 1 = cc in omega arith)
+no-start-above : (t : ResourceTimeline) (u s : ℕ) (f : Found) → t .capacity < u → freeTo t u s f ≡ false
+unfolding freeTo
+no-start-above t u s nothing h = refl
+no-start-above t u s (at e) h = free-few (t .capacity) (bookings t) u s e h
 
-pub end-none : (t : ResourceTimeline) (u s : ℕ) (f : Found) → freeEnd t u s f ≡ nothing → freeTo t u s f ≡ false
-unfolding freeEnd freeTo
-end-none t u s nothing q = refl
-end-none t u s (at d) q = go (freeOn t u s d) refl q
-  where
-    go : (b : Bool) → freeOn t u s d ≡ b → cond b (at d) nothing ≡ nothing → freeOn t u s d ≡ false
-    go true h r = absurd (let z : _≡_ {A = ℕ} 0 1 = cc in omega arith)
-    go false h r = h
-
-pub free-end-at : (t : ResourceTimeline) (u s e : ℕ) (f : Found) → f ≡ at e → freeOn t u s e ≡ true → at e ≡ freeEnd t u s f
-unfolding freeEnd
-free-end-at t u s e f q h = rw (q, h) refl
-
-pub free-end-no : (t : ResourceTimeline) (u s e : ℕ) (f : Found) → f ≡ at e → freeOn t u s e ≡ false → nothing ≡ freeEnd t u s f
-unfolding freeEnd
-free-end-no t u s e f q h = rw (q, h) refl
-
-pub free-end-nothing : (t : ResourceTimeline) (u s : ℕ) (f : Found) → f ≡ nothing → nothing ≡ freeEnd t u s f
-unfolding freeEnd
-free-end-nothing t u s f q = rw q refl
+pub start-above : (t : ResourceTimeline) → valid t ≡ true → (from work u : ℕ) → from ≤ 2 ^ 43 → t .capacity < u → earliestResumable t from work u ≡ nothing
+unfolding startsAt
+start-above t v from work u a h =
+    start-none t v from work u (2 ^ 63) a (omega arith) (record { low = omega arith; none = λ y b c. no-start-above t u y (jointEnd (t .calendar ∷ []) y work) h })
 
 -- the reply of resumable work
 pub resumed-at : (t : ResourceTimeline) (work s e : ℕ) (f : Found) → f ≡ at s → jointEnd (t .calendar ∷ []) s work ≡ at e → ended s (at e) ≡ resumed t work f
@@ -102,14 +71,6 @@ resumed-at t work s e f q h = rw (q, h) refl
 pub resumed-none : (t : ResourceTimeline) (work s : ℕ) (f : Found) → f ≡ nothing → ended s nothing ≡ resumed t work f
 unfolding resumed ended
 resumed-none t work s f q = rw q refl
-
-pub starts-is : (t : ResourceTimeline) (work u s : ℕ) → freeTo t u s (jointEnd (t .calendar ∷ []) s work) ≡ true → startsAt t work u s ≡ true
-unfolding startsAt
-starts-is t work u s h = h
-
-pub starts-not : (t : ResourceTimeline) (work u s : ℕ) → freeTo t u s (jointEnd (t .calendar ∷ []) s work) ≡ false → startsAt t work u s ≡ false
-unfolding startsAt
-starts-not t work u s h = h
 
 -- the replies of an ask
 module _ (t : ResourceTimeline) (from span u : ℕ) (reply : Reply) where

@@ -9,5 +9,6 @@ pub mod Listing
 pub mod Stepping
 pub mod Gaps
 pub mod Finding
+pub mod Trying
 pub mod Meaning
 pub mod Keeping

@@ -11,8 +11,9 @@ use lib.ListN.{length, getD}
 use Rattle.calendar.specs.Basics.{not-both}
 use Rattle.board.specs.Resources.{noDiary, lookup, onBoard}
 use Rattle.board.proofs.Facts.{rules}
+use Rattle.scheduler.specs.Arrays.{every-off}
 use Rattle.board.proofs.Meaning.{resource-of, lookup-means}
-use Rattle.alone.proofs.Gathering.{Gathered, gathered-none, gathered-next, gathered-wanted, every-off, place-known, place-off}
+use Rattle.alone.proofs.Gathering.{Gathered, gathered-none, gathered-next, gathered-wanted, place-known, place-off}
 
 abbrev Inv-loop : tie.InvT-loop
 Inv-loop count usage b companions places g₀ i₀ g i =
@@ -83,7 +84,7 @@ returns c =
     let n = getD (a .t3) i 0 in
     let none : onBoard (a .t1) n ≡ false = place-off (lookup (a .t1) n) _ (q .0 .1 n (omega (arith, w))) (c .if1 .taken) (λ p e. omega (arith, lookup-means (a .t1) n p e .0, rules (a .t1) (q .0 .0) .few)) in
     record {
-      right = sym (every-off (onBoard (a .t1)) (a .t3) i (a .count) l (omega (arith, v .1, q .1 .0)) none);
+      right = sym (every-off (onBoard (a .t1)) 0 (a .t3) i (a .count) l (omega (arith, v .1, q .1 .0)) none);
       few = omega (arith, v .2, q .1 .0);
       shares = λ e. absurd (not-both false e refl);
       wanted = λ e. absurd (not-both false e refl);

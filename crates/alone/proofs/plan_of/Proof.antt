@@ -12,7 +12,7 @@ use lib.ListN.{length, getD, length-set}
 use Rattle.board.specs.Resources.{resourceAt}
 use Rattle.board.proofs.Facts.{rules}
 use Rattle.scheduler.specs.Alone.{durationAlone, spanAlone, arrival}
-use Rattle.alone.proofs.Filling.{filled-next}
+use Rattle.scheduler.specs.Arrays.{filled-next}
 use Rattle.alone.proofs.Planning.{order-lawful, category-range, number-small, way-small, arrival-is}
 use Rattle.scheduler.specs.Alone.{spanOf}
 

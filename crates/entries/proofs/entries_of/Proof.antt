@@ -83,7 +83,7 @@ returns c =
     let k = duration-small (a .b) (a .a) (a .held) (a .count) (p .result) (d .result) (e .result .entries) (q .0) (q .1) (q .2) (q .3) (e .ensures .1) (q .4) (p .ensures) (d .ensures) (e .ensures .2) in
     let j = c .join-each .ensures in
     let g = c .before .before .before .before .greatest-setup .ensures in
-    ((j .0, j .1 ∙ rw n (entries-whole (a .b) (a .a) (a .held) (a .count) (p .result) (d .result) (e .result .entries) (q .0) (q .1) (q .2) (q .3) (e .ensures .1) (q .4) (p .ensures) (d .ensures) (e .ensures .2))), (rw (g, n) (span-is (a .b) (a .a) (a .held) (a .count) (p .result) (d .result) (e .result .entries) (q .0) (q .1) (q .2) (q .3) (e .ensures .1) (q .4) (p .ensures) (d .ensures) (e .ensures .2)), omega (arith, s, g, k .process-range, k .teardown-range)))
+    ((j .0, j .1, j .2 ∙ rw n (entries-whole (a .b) (a .a) (a .held) (a .count) (p .result) (d .result) (e .result .entries) (q .0) (q .1) (q .2) (q .3) (e .ensures .1) (q .4) (p .ensures) (d .ensures) (e .ensures .2))), (rw (g, n) (span-is (a .b) (a .a) (a .held) (a .count) (p .result) (d .result) (e .result .entries) (q .0) (q .1) (q .2) (q .3) (e .ensures .1) (q .4) (p .ensures) (d .ensures) (e .ensures .2)), omega (arith, s, g, k .process-range, k .teardown-range)))
 
 pub entries-of-spec : {M : Type 1} → statement M
 entries-of-spec =

@@ -10,7 +10,7 @@ use native.Mathlib.Omega.{arith}
 use borrow.Author.Needs.{needs}
 use lib.ListN.{length, getD, length-set}
 use Rattle.scheduler.specs.Holds.{noHold}
-use Rattle.alone.proofs.Filling.{filled-next}
+use Rattle.scheduler.specs.Arrays.{filled-next}
 use Rattle.entries.specs.Parts.{noEntry, setupAt}
 use mathlib.Core.Logic.{⊎-elim}
 use Rattle.entries.proofs.Parting.{entry-kept, kept-true, kept-false}

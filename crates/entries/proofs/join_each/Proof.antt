@@ -14,9 +14,8 @@ use borrow.Author.Tests.{not-true, not-false}
 use lib.ListN.{length, getD, take, length-map}
 use Rattle.scheduler.specs.Fitting.{joinEach}
 use Rattle.entries.specs.Parts.{numberIn, Small}
-use Rattle.entries.proofs.Joining.{Joined, joined-none, joined-few, join-skip, join-on, join-room}
+use Rattle.entries.proofs.Joining.{Joined, joined-none, joined-few, small-at, join-skip, join-on, join-room}
 use Prim.Native.Nat.{_<_}
-use Rattle.entries.proofs.Cells.{small-at}
 
 abbrev Inv-loop : tie.InvT-loop
 Inv-loop list n more₀ i₀ more i =
@@ -115,7 +114,7 @@ returns c =
     let v = c .before .loop .inv in
     let l = c .loop-test .left in
     let z : c .before .loop .i ≡ a .t2 .len = omega (arith, v .1) in
-    (joined-few _ _ _ _ _ (v .3), rw z at (v .3 .entries))
+    (joined-few _ _ _ _ _ (v .3), v .3 .long, rw z at (v .3 .entries))
 
 pub join-each-spec : {M : Type 1} → statement M
 join-each-spec =

@@ -17,7 +17,7 @@ use Rattle.board.proofs.Meaning.{resource-of}
 use Rattle.scheduler.specs.Fitting.{allCompanions}
 use Rattle.scheduler.specs.Holds.{noHold, heldTo}
 use Rattle.scheduler.specs.Lists.{Each, each-end}
-use Rattle.alone.proofs.Filling.{filled-next}
+use Rattle.scheduler.specs.Arrays.{filled-next}
 use Rattle.entries.specs.Parts.{Small}
 use Rattle.entries.proofs.Parting.{setup-kept, kept-next, companions-next}
 

@@ -8,11 +8,11 @@ use Prim.Native.Nat.{_+_, _-_, _≤_}
 use native.Mathlib.Omega.{arith}
 use borrow.Author.Needs.{needs}
 use lib.ListN.{length, take, length-set}
-use Rattle.entries.proofs.Cells.{pushed-next}
+use Rattle.scheduler.specs.Arrays.{pushed-next}
 use mathlib.Core.Path.{subst}
 use Rattle.scheduler.specs.Lists.{Each, each-append}
 use Rattle.entries.specs.Parts.{Small}
-use Rattle.entries.proofs.Cells.{each-cells}
+use Rattle.scheduler.specs.Arrays.{each-cells}
 
 abbrev Inv-loop : tie.InvT-loop
 Inv-loop count more numbers₀ n i₀ numbers i = (i ≤ count) × (length numbers ≡ 32) × (length more ≡ 4) × (take (n + i) numbers ≡ take n numbers₀ ++ take i more)

@@ -22,7 +22,7 @@ returns-2 c =
     c .earliest-gap .ensures ∙ rw e refl
 
 first-fit-requires : tie.Need-first-fit-requires
-first-fit-requires c κs = c .before .before .before .before .before .pre .0
+first-fit-requires c κs = let q = c .before .before .before .before .before .pre .0 in (q .0, q .1, q .2, omega arith)
 
 returns-3 : tie.Need-returns-3
 returns-3 c = c .first-fit .ensures
