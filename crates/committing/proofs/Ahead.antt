@@ -1,0 +1,187 @@
+-- Booking the lines of a slate: what holds of the board and of the lines that are left, one line more.
+use mathlib.Core.Path.{_≡_, refl, sym, ap, _∙_, subst}
+use mathlib.Core.Bool.{true, false, not, cond}
+use mathlib.Core.List.{List, [], _∷_}
+use Prim.Native.Nat.{ℕ, suc, _+_, _-_, _^_, _≤_, _<_}
+use native.Mathlib.Omega.{arith}
+use lib.ListN.{length, getD, drop}
+use lib.Dec.{leb, ltb, eqb}
+use lib.Seq.{drop-cons}
+use borrow.Author.Tests.{lt-leb, le-ltb, eq-eqb}
+use Rattle.calendar.specs.Search.{at}
+use Rattle.timeline.specs.declared.ResourceTimeline.{ResourceTimeline}
+use Rattle.timeline.specs.Book.{bookReply}
+use Rattle.timeline.specs.Valid as timeline
+use Rattle.board.specs.declared.LastCategory.{LastCategory}
+use Rattle.board.specs.declared.LastCategory.the-variants.{Category}
+use Rattle.board.specs.declared.Resource.{Resource}
+use Rattle.board.specs.declared.Board.{Board}
+use Rattle.board.specs.Resources.{resourceAt, lookup}
+use Rattle.board.specs.Places.{placeOf}
+use Rattle.board.specs.Valid as board
+use Rattle.board.specs.Enter.{withResource, changed}
+use Rattle.board.proofs.Facts.{rules}
+use Rattle.board.proofs.Meaning.{resource-of}
+use Rattle.scheduler.specs.Alone.{diaryOf}
+use Rattle.scheduler.specs.Committing.{Line, lineOf, linesOf, entriesOn, withBooking, lastAfter, booked, bookAll}
+use Rattle.scheduler.specs.Committed.{Bookable, Right, Room, step-long, lookup-after, after-keeps, right-after, room-after}
+use Rattle.scheduler.specs.Lists.{Each, each-on, each-map}
+use Rattle.scheduler.specs.Ruled.{diary-at}
+use Rattle.alone.specs.Plans.{Known}
+use Rattle.committing.proofs.Rows.{number-place}
+
+-- a booking that is not refused
+pub book-taken : (t : ResourceTimeline) (start end category u : ℕ) → timeline.valid t ≡ true → t .len < 64 → Bookable start end category → 1 ≤ u → u ≤ 10000
+    → bookReply t start end u .timeline ≡ withBooking t start end u
+unfolding bookReply withBooking
+book-taken t start end category u v room w some few =
+    let s : ltb (2 ^ 42) start ≡ false = le-ltb (2 ^ 42) start (omega (arith, w .order, w .range)) in
+    let e : ltb (2 ^ 42) end ≡ false = le-ltb (2 ^ 42) end (w .range) in
+    let o : leb end start ≡ false = lt-leb end start (w .order) in
+    let m : ltb u 1 ≡ false = le-ltb u 1 some in
+    let n : ltb 10000 u ≡ false = le-ltb 10000 u few in
+    let f : leb 64 (t .len) ≡ false = lt-leb 64 (t .len) room in
+    rw (v, s, e, o, m, n, f) refl
+
+-- the resource with another diary and last category
+abbrev pub diaryAnd : Resource → ResourceTimeline → LastCategory → Resource
+diaryAnd r t last = record {
+  number = r .number;
+  kind = r .kind;
+  skills = r .skills;
+  companions = r .companions;
+  count = r .count;
+  timeline = t;
+  matrix = r .matrix;
+  last = last;
+}
+
+module _ (r : Resource) (t : ResourceTimeline) (start end category : ℕ) (l : Line) (e : t ≡ withBooking (r .timeline) start end (l .units)) where
+  -- with a matrix, and not as a companion
+  pub booked-category : r .matrix .present ≡ true → l .companion ≡ false → diaryAnd r t (Category category) ≡ booked start end category l r
+  unfolding booked lastAfter
+  booked-category p q = rw (e, p, q) refl
+
+  pub booked-companion : l .companion ≡ true → r .matrix .present ≡ true → diaryAnd r t (r .last) ≡ booked start end category l r
+  unfolding booked lastAfter
+  booked-companion q p = rw (e, p, q) refl
+
+  pub booked-plain : r .matrix .present ≡ false → diaryAnd r t (r .last) ≡ booked start end category l r
+  unfolding booked lastAfter
+  booked-plain p = rw (e, p) refl
+
+-- the lines that are left
+pub lines-left : (slate : List (List ℕ)) (i count : ℕ) → i < count → count ≤ length slate
+    → linesOf (count - i) (drop i slate) ≡ lineOf (getD slate i []) ∷ linesOf (count - (i + 1)) (drop (i + 1) slate)
+unfolding linesOf
+lines-left slate i count l m =
+    let z : count - i ≡ suc (count - (i + 1)) = omega arith in
+    let y : i + 1 ≡ suc i = omega arith in
+    rw (z, drop-cons slate i [] (omega arith), y) refl
+
+pub lines-none : (slate : List (List ℕ)) (i count : ℕ) → count ≤ i → linesOf (count - i) (drop i slate) ≡ []
+unfolding linesOf
+lines-none slate i count l =
+    let z : count - i ≡ 0 = omega arith in
+    rw z refl
+
+each-first : {A : Type 0} (P : A → Type 0) (x : A) (xs : List A) → Each P (x ∷ xs) → P x
+each-first P x xs (each-on p ps) = p
+
+each-rest : {A : Type 0} (P : A → Type 0) (x : A) (xs : List A) → Each P (x ∷ xs) → Each P xs
+each-rest P x xs (each-on p ps) = ps
+
+-- booking the lines left on this board makes the whole
+pub record Ahead (start end category : ℕ) (places : List ℕ) (whole b : Board) (ls : List Line) : Type 0 where
+  pub long : length (b .resources) ≡ 16
+  pub valid : board.valid b ≡ true
+  pub known : Known b places
+  pub right : Each (Right b) ls
+  pub room : Room b ls
+  pub same : bookAll start end category ls b ≡ whole
+
+-- the diary at a number's place takes a booking of these units
+pub record Here (b : Board) (number place units : ℕ) : Type 0 where
+  pub low : number < 16
+  pub found : lookup b number ≡ at place
+  pub place-low : place < 16
+  pub kept : timeline.valid (resourceAt b place .timeline) ≡ true
+  pub free : resourceAt b place .timeline .len < 64
+  pub some : 1 ≤ units
+  pub few : units ≤ 10000
+
+pub ahead-none : (start end category : ℕ) (places : List ℕ) (whole b : Board) (ls : List Line) → ls ≡ [] → Ahead start end category places whole b ls → b ≡ whole
+unfolding bookAll
+ahead-none start end category places whole b ls e a = sym (ap (λ (ks : List Line). bookAll start end category ks b) e) ∙ a .same
+
+module _ (start end category : ℕ) (places : List ℕ) (whole b : Board) (l : Line) (ls : List Line) (a : Ahead start end category places whole b (l ∷ ls)) where
+  abbrev place : ℕ
+  place = getD places (l .number) 0
+
+  mine : Right b l
+  mine = each-first (Right b) l ls (a .right)
+
+  has-room : diaryOf b (l .number) .len < 64
+  unfolding entriesOn
+  has-room =
+      let e : eqb (l .number) (l .number) ≡ true = eq-eqb (l .number) (l .number) refl in
+      let m : diaryOf b (l .number) .len + (cond (eqb (l .number) (l .number)) 1 0 + entriesOn (l .number) ls) ≤ 64 = a .room (l .number) (mine .on) in
+      let g : diaryOf b (l .number) .len + (1 + entriesOn (l .number) ls) ≤ 64 = rw e at m in
+      omega arith
+
+  ahead-here : Here b (l .number) place (l .units)
+  ahead-here =
+      let w = number-place b (a .valid) places (a .known) (l .number) (mine .on) in
+      record {
+        low = w .0;
+        found = w .1;
+        place-low = omega (arith, w .2, rules b (a .valid) .few);
+        kept = resource-of b (a .valid) place (w .2) .timeline;
+        free = subst (λ (t : ResourceTimeline). t .len < 64) (diary-at b (a .valid) (l .number) place (w .1)) has-room;
+        some = mine .some;
+        few = mine .few;
+      }
+
+  abbrev after : Board
+  after = changed b (lookup b (l .number)) (booked start end category l)
+
+  module _ (w : Bookable start end category) where
+    go-on : Ahead start end category places whole after ls
+    unfolding bookAll
+    go-on = record {
+      long = step-long start end category b l (lookup b (l .number)) ∙ a .long;
+      valid = after-keeps start end category w b (a .long) (a .valid) l mine has-room;
+      known = λ n m. a .known n m ∙ sym (ap placeOf (lookup-after start end category w b (a .long) (a .valid) l mine n));
+      right = each-map (Right b) (Right after) ls (right-after start end category w b (a .long) (a .valid) l mine) (each-rest (Right b) l ls (a .right));
+      room = room-after start end category w b (a .long) (a .valid) l mine ls (a .room);
+      same = a .same;
+    }
+
+    -- the line is booked at its place
+    ahead-next : (x : Resource) → x ≡ booked start end category l (resourceAt b place) → Ahead start end category places whole (withResource b place x) ls
+    unfolding changed
+    ahead-next x e =
+        let z : after ≡ withResource b place x = rw (ahead-here .found, e) refl in
+        subst (λ (n : Board). Ahead start end category places whole n ls) z go-on
+
+-- the rows left, from row i of the slate
+module _ (start end category : ℕ) (places : List ℕ) (whole b : Board) (slate : List (List ℕ)) (i count : ℕ) (l : i < count) (m : count ≤ length slate)
+    (a : Ahead start end category places whole b (linesOf (count - i) (drop i slate))) where
+  abbrev row : List ℕ
+  row = getD slate i []
+
+  abbrev at-row : ℕ
+  at-row = getD places (getD row 0 0) 0
+
+  left : Ahead start end category places whole b (lineOf row ∷ linesOf (count - (i + 1)) (drop (i + 1) slate))
+  left = subst (Ahead start end category places whole b) (lines-left slate i count l m) a
+
+  pub row-here : Here b (getD row 0 0) at-row (getD row 2 0)
+  unfolding lineOf
+  row-here = ahead-here start end category places whole b (lineOf row) (linesOf (count - (i + 1)) (drop (i + 1) slate)) left
+
+  -- what is booked does not depend on the number that the line names
+  pub row-next : Bookable start end category → (x : Resource) (number : ℕ) → x ≡ booked start end category (record { number = number; units = getD row 2 0; companion = not (eqb (getD row 3 0) 0) }) (resourceAt b at-row)
+      → Ahead start end category places whole (withResource b at-row x) (linesOf (count - (i + 1)) (drop (i + 1) slate))
+  unfolding lineOf booked
+  row-next w x number e = ahead-next start end category places whole b (lineOf row) (linesOf (count - (i + 1)) (drop (i + 1) slate)) left w x e

@@ -1,0 +1,4 @@
+-- The proofs of the functions.
+mod Rows
+mod Ahead
+mod Refusing

@@ -1,0 +1,121 @@
+-- The replies of a commitment, over plain values: each refusal in its order, and the board booked.
+use mathlib.Core.Path.{_≡_, refl, sym, _∙_}
+use mathlib.Core.Bool.{Bool, true, false, not, _&&_, _||_}
+use mathlib.Core.List.{List}
+use Prim.Native.Nat.{ℕ, _+_, _^_, _≤_, _<_}
+use lib.ListN.{length}
+use lib.Dec.{leb, ltb, eqb}
+use borrow.Author.Tests.{lt-leb, le-ltb, lt-ltb, le-leb, ltb-false, leb-false, not-false, not-true}
+use Rattle.activity.specs.Check.{every}
+use Rattle.board.specs.declared.Board.{Board}
+use Rattle.board.specs.Resources.{onBoard}
+use Rattle.board.specs.Valid.{valid}
+use Rattle.board.specs.Enter.{entered}
+use Rattle.board.proofs.Replying.{refused-by, taken-by}
+use Rattle.scheduler.specs.Alone.{diaryOf}
+use Rattle.scheduler.specs.Committing.{Line, linesOf, entriesOn, linesRefusal, commitRefusal, bookAll, commitReply}
+use Rattle.scheduler.specs.Committed.{Bookable, Right, Room, passed, room-passed}
+use Rattle.scheduler.specs.Lists.{Each}
+use Rattle.scheduler.specs.Tests.{or-left, or-right, unrefused}
+
+-- a check that the code made, and what it is a check of
+pub check-passed : (r p q : Bool) → r ≡ p → p ≡ q → not r ≡ false → q ≡ true
+check-passed r p q e f h = sym f ∙ sym e ∙ not-false r h
+
+pub check-failed : (r p q : Bool) → r ≡ p → p ≡ q → not r ≡ true → q ≡ false
+check-failed r p q e f h = sym f ∙ sym e ∙ not-true r h
+
+abbrev pub allOn : Board → List Line → Bool
+allOn b ls = every (λ l. onBoard b (l .number)) ls
+
+abbrev pub allMetered : List Line → Bool
+allMetered ls = every (λ l. leb 1 (l .units) && leb (l .units) 10000) ls
+
+abbrev pub allRoomy : Board → List Line → Bool
+allRoomy b ls = every (λ l. leb (diaryOf b (l .number) .len + entriesOn (l .number) ls) 64) ls
+
+module _ (b : Board) (ls : List Line) (start end category : ℕ) where
+  pub refused-off : allOn b ls ≡ false → 5 ≡ linesRefusal b ls start end category
+  unfolding linesRefusal
+  refused-off e = rw e refl
+
+  module _ (on : allOn b ls ≡ true) where
+    pub refused-category : 15 < category → 5 ≡ linesRefusal b ls start end category
+    unfolding linesRefusal
+    refused-category l = rw (on, lt-ltb 15 category l) refl
+
+    module _ (c : category ≤ 15) where
+      pub refused-start : 2 ^ 42 < start → 1 ≡ linesRefusal b ls start end category
+      unfolding linesRefusal
+      refused-start l = rw (on, le-ltb 15 category c, lt-ltb (2 ^ 42) start l) refl
+
+      module _ (s : start ≤ 2 ^ 42) where
+        pub refused-end : 2 ^ 42 < end → 1 ≡ linesRefusal b ls start end category
+        unfolding linesRefusal
+        refused-end l = rw (on, le-ltb 15 category c, le-ltb (2 ^ 42) start s, lt-ltb (2 ^ 42) end l) refl
+
+        module _ (e : end ≤ 2 ^ 42) where
+          pub refused-order : end ≤ start → 2 ≡ linesRefusal b ls start end category
+          unfolding linesRefusal
+          refused-order l = rw (on, le-ltb 15 category c, le-ltb (2 ^ 42) start s, le-ltb (2 ^ 42) end e, le-leb end start l) refl
+
+          module _ (o : start < end) where
+            pub refused-units : allMetered ls ≡ false → 3 ≡ linesRefusal b ls start end category
+            unfolding linesRefusal
+            refused-units u = rw (on, le-ltb 15 category c, le-ltb (2 ^ 42) start s, le-ltb (2 ^ 42) end e, lt-leb end start o, u) refl
+
+            module _ (u : allMetered ls ≡ true) where
+              pub refused-room : allRoomy b ls ≡ false → 4 ≡ linesRefusal b ls start end category
+              unfolding linesRefusal
+              refused-room r = rw (on, le-ltb 15 category c, le-ltb (2 ^ 42) start s, le-ltb (2 ^ 42) end e, lt-leb end start o, u, r) refl
+
+              pub refused-none : allRoomy b ls ≡ true → 0 ≡ linesRefusal b ls start end category
+              unfolding linesRefusal
+              refused-none r = rw (on, le-ltb 15 category c, le-ltb (2 ^ 42) start s, le-ltb (2 ^ 42) end e, lt-leb end start o, u, r) refl
+
+  -- lines that are not refused can be booked
+  pub all-fine : valid b ≡ true → (n : ℕ) → n ≡ linesRefusal b ls start end category → n ≡ 0 → Bookable start end category × Each (Right b) ls × Room b ls
+  unfolding linesRefusal
+  all-fine v n q z =
+      let x0 = unrefused (not (allOn b ls) || ltb 15 category) 4 _ (sym q ∙ z) in
+      let x1 = unrefused (ltb (2 ^ 42) start || ltb (2 ^ 42) end) 0 _ (x0 .1) in
+      let x2 = unrefused (leb end start) 1 _ (x1 .1) in
+      let x3 = unrefused (not (allMetered ls)) 2 _ (x2 .1) in
+      let x4 = unrefused (not (allRoomy b ls)) 3 0 (x3 .1) in (
+        record {
+          order = leb-false end start (x2 .0);
+          range = ltb-false (2 ^ 42) end (or-right (ltb (2 ^ 42) start) (ltb (2 ^ 42) end) (x1 .0));
+          category-range = ltb-false 15 category (or-right (not (allOn b ls)) (ltb 15 category) (x0 .0));
+        },
+        passed b ls (not-false (allOn b ls) (or-left (not (allOn b ls)) (ltb 15 category) (x0 .0))) (not-false (allMetered ls) (x3 .0)),
+        room-passed b ls v (not-false (allRoomy b ls) (x4 .0)),
+      )
+
+module _ (b : Board) (slate : List (List ℕ)) (count start end category : ℕ) where
+  pub reply-rules : valid b ≡ false → record { refusal = 15; board = b } ≡ commitReply b slate count start end category
+  unfolding commitReply commitRefusal entered
+  reply-rules v = rw v refl
+
+  module _ (v : valid b ≡ true) where
+    pub reply-none : count ≡ 0 → record { refusal = 0; board = b } ≡ commitReply b slate count start end category
+    unfolding commitReply commitRefusal entered linesOf bookAll
+    reply-none z = rw (v, z) refl
+
+    module _ (some : eqb count 0 ≡ false) where
+      pub reply-count : length slate < count → record { refusal = 7; board = b } ≡ commitReply b slate count start end category
+      unfolding commitReply commitRefusal entered
+      reply-count l = rw (v, some, lt-ltb (length slate) count l) refl
+
+      module _ (l : count ≤ length slate) where
+        refusal-is : linesRefusal b (linesOf count slate) start end category ≡ commitRefusal b slate count start end category
+        unfolding commitRefusal
+        refusal-is = rw (v, some, le-ltb (length slate) count l) refl
+
+        pub reply-refused : (n : ℕ) → n ≡ linesRefusal b (linesOf count slate) start end category → (n ≡ 0 → ⊥) → record { refusal = n; board = b } ≡ commitReply b slate count start end category
+        unfolding commitReply
+        reply-refused n e h = refused-by n (commitRefusal b slate count start end category) b (bookAll start end category (linesOf count slate) b) (e ∙ refusal-is) h
+
+        pub reply-taken : (after : Board) (n : ℕ) → n ≡ linesRefusal b (linesOf count slate) start end category → n ≡ 0 → after ≡ bookAll start end category (linesOf count slate) b
+            → record { refusal = 0; board = after } ≡ commitReply b slate count start end category
+        unfolding commitReply
+        reply-taken after n e h z = rw z (taken-by (commitRefusal b slate count start end category) b (bookAll start end category (linesOf count slate) b) (sym refusal-is ∙ sym e ∙ h))

@@ -1,0 +1,183 @@
+-- `committing::book_all` meets its contract. The loop: booking the lines left makes the whole (Ahead).
+use borrow.Author.Needs.{needs}
+use mathlib.Core.Path.{_≡_, refl}
+use Prim.Native.Nat.{_-_, _≤_}
+use native.Mathlib.Omega.{arith}
+use lib.ListN.{length, drop, length-map}
+use Rattle.committing.proofs.book_all.Statement.{statement}
+use Rattle.committing.proofs.book_all.Tie as tie
+use Rattle.scheduler.specs.Committing.{linesOf, bookAll}
+use Rattle.scheduler.specs.Committed.{Bookable}
+use Rattle.committing.proofs.Ahead.{Ahead, ahead-none, lines-none, row-here, row-next}
+
+abbrev Inv-loop : tie.InvT-loop
+Inv-loop slate count start end category places board₀ i₀ board i = (i ≤ count) × (count ≤ length slate) × Bookable start end category × Ahead start end category places (bookAll start end category (linesOf count slate) board₀) board (linesOf (count - i) (drop i slate))
+
+abbrev μ-loop : tie.MeasureT-loop
+μ-loop slate count start end category places board₀ i₀ board i = count - i
+
+loop-holds : tie.Need-loop-holds Inv-loop μ-loop
+loop-holds c =
+    let p = c .pre in
+    let z : c .args .count - 0 ≡ c .args .count = omega arith in
+    (omega arith, p .0 .2, p .0 .3, rw z (record { long = simp length-map at (c .good .0 .1 .1 .0 .1 .0 .1); valid = p .0 .0; known = p .0 .1; right = p .1 .0; room = p .1 .1; same = refl }))
+
+mul-row : tie.Need-mul-row Inv-loop μ-loop
+mul-row c = search needs
+
+shared-slice-copy-out-row : tie.Need-shared-slice-copy-out-row Inv-loop μ-loop
+shared-slice-copy-out-row c =
+    let v = c .before .loop .inv in
+    let l = c .loop-test .taken in
+    omega (arith, v .1)
+
+array-read-number : tie.Need-array-read-number Inv-loop μ-loop
+array-read-number c = search needs
+
+mul-place : tie.Need-mul-place Inv-loop μ-loop
+mul-place c =
+    let a = c .before .before .before .args in
+    let v = c .before .before .loop .inv in
+    let i = c .before .before .loop .i in
+    let l = c .before .loop-test .taken in
+    let n = c .before .before .loop .board in
+    let whole = bookAll (a .start) (a .end) (a .category) (linesOf (a .count) (a .slate .now)) (a .b) in
+    let h = row-here (a .start) (a .end) (a .category) (a .t2) whole n (a .slate .now) i (a .count) l (v .1) (v .3) in
+    search needs
+
+array-read-place : tie.Need-array-read-place Inv-loop μ-loop
+array-read-place c =
+    let a = c .before .before .before .args in
+    let v = c .before .before .loop .inv in
+    let i = c .before .before .loop .i in
+    let l = c .before .loop-test .taken in
+    let n = c .before .before .loop .board in
+    let whole = bookAll (a .start) (a .end) (a .category) (linesOf (a .count) (a .slate .now)) (a .b) in
+    let h = row-here (a .start) (a .end) (a .category) (a .t2) whole n (a .slate .now) i (a .count) l (v .1) (v .3) in
+    search needs
+
+mul-r : tie.Need-mul-r Inv-loop μ-loop
+mul-r c =
+    let a = c .before .before .before .args in
+    let v = c .before .before .loop .inv in
+    let i = c .before .before .loop .i in
+    let l = c .before .loop-test .taken in
+    let n = c .before .before .loop .board in
+    let whole = bookAll (a .start) (a .end) (a .category) (linesOf (a .count) (a .slate .now)) (a .b) in
+    let h = row-here (a .start) (a .end) (a .category) (a .t2) whole n (a .slate .now) i (a .count) l (v .1) (v .3) in
+    search needs
+
+element-copy-out-r : tie.Need-element-copy-out-r Inv-loop μ-loop
+element-copy-out-r c =
+    let a = c .before .before .before .args in
+    let v = c .before .before .loop .inv in
+    let i = c .before .before .loop .i in
+    let l = c .before .loop-test .taken in
+    let n = c .before .before .loop .board in
+    let whole = bookAll (a .start) (a .end) (a .category) (linesOf (a .count) (a .slate .now)) (a .b) in
+    let h = row-here (a .start) (a .end) (a .category) (a .t2) whole n (a .slate .now) i (a .count) l (v .1) (v .3) in
+    search needs
+
+array-read-book-on : tie.Need-array-read-book-on Inv-loop μ-loop
+array-read-book-on c = search needs
+
+cast-book-on : tie.Need-cast-book-on Inv-loop μ-loop
+cast-book-on c =
+    let a = c .before .before .before .before .args in
+    let v = c .before .before .before .loop .inv in
+    let i = c .before .before .before .loop .i in
+    let l = c .before .before .loop-test .taken in
+    let n = c .before .before .before .loop .board in
+    let whole = bookAll (a .start) (a .end) (a .category) (linesOf (a .count) (a .slate .now)) (a .b) in
+    let h = row-here (a .start) (a .end) (a .category) (a .t2) whole n (a .slate .now) i (a .count) l (v .1) (v .3) in
+    let few = h .few in
+    omega (arith, few)
+
+array-read-book-on-2 : tie.Need-array-read-book-on-2 Inv-loop μ-loop
+array-read-book-on-2 c = search needs
+
+book-on-requires : tie.Need-book-on-requires Inv-loop μ-loop
+book-on-requires c κs =
+    let a = c .before .before .before .before .args in
+    let v = c .before .before .before .loop .inv in
+    let i = c .before .before .before .loop .i in
+    let l = c .before .before .loop-test .taken in
+    let n = c .before .before .before .loop .board in
+    let whole = bookAll (a .start) (a .end) (a .category) (linesOf (a .count) (a .slate .now)) (a .b) in
+    let h = row-here (a .start) (a .end) (a .category) (a .t2) whole n (a .slate .now) i (a .count) l (v .1) (v .3) in
+    (h .kept, h .free, v .2, h .some, h .few)
+
+mul-x : tie.Need-mul-x Inv-loop μ-loop
+mul-x c =
+    let a = c .before .before .before .before .before .args in
+    let v = c .before .before .before .before .loop .inv in
+    let i = c .before .before .before .before .loop .i in
+    let l = c .before .before .before .loop-test .taken in
+    let n = c .before .before .before .before .loop .board in
+    let whole = bookAll (a .start) (a .end) (a .category) (linesOf (a .count) (a .slate .now)) (a .b) in
+    let h = row-here (a .start) (a .end) (a .category) (a .t2) whole n (a .slate .now) i (a .count) l (v .1) (v .3) in
+    let low = h .place-low in
+    let number = h .low in
+    omega (arith, low, number)
+
+element-set-from-x : tie.Need-element-set-from-x Inv-loop μ-loop
+element-set-from-x c =
+    let a = c .before .before .before .before .before .args in
+    let v = c .before .before .before .before .loop .inv in
+    let i = c .before .before .before .before .loop .i in
+    let l = c .before .before .before .loop-test .taken in
+    let n = c .before .before .before .before .loop .board in
+    let whole = bookAll (a .start) (a .end) (a .category) (linesOf (a .count) (a .slate .now)) (a .b) in
+    let h = row-here (a .start) (a .end) (a .category) (a .t2) whole n (a .slate .now) i (a .count) l (v .1) (v .3) in
+    let low = h .place-low in
+    let number = h .low in
+    omega (arith, low, number)
+
+add-i : tie.Need-add-i Inv-loop μ-loop
+add-i c = search needs
+
+loop-less : tie.Need-loop-less Inv-loop μ-loop
+loop-less c = search needs
+
+loop-again : tie.Need-loop-again Inv-loop μ-loop
+loop-again c =
+    let a = c .before .before .before .before .before .args in
+    let v = c .before .before .before .before .loop .inv in
+    let i = c .before .before .before .before .loop .i in
+    let l = c .before .before .before .loop-test .taken in
+    let n = c .before .before .before .before .loop .board in
+    let whole = bookAll (a .start) (a .end) (a .category) (linesOf (a .count) (a .slate .now)) (a .b) in
+    (omega arith, v .1, v .2, row-next (a .start) (a .end) (a .category) (a .t2) whole n (a .slate .now) i (a .count) l (v .1) (v .3) (v .2) (c .book-on .result) _ (c .book-on .ensures))
+
+returns : tie.Need-returns Inv-loop μ-loop
+returns c =
+    let a = c .before .before .args in
+    let v = c .before .loop .inv in
+    let i = c .before .loop .i in
+    let l = c .loop-test .left in
+    ahead-none (a .start) (a .end) (a .category) (a .t2) _ (c .before .loop .board) _ (lines-none (a .slate .now) i (a .count) (omega arith)) (v .3)
+
+pub book-all-spec : {M : Type 1} → statement M
+book-all-spec =
+    tie.close
+    (tie.spec
+    Inv-loop
+    μ-loop
+    loop-holds
+    mul-row
+    shared-slice-copy-out-row
+    array-read-number
+    mul-place
+    array-read-place
+    mul-r
+    element-copy-out-r
+    array-read-book-on
+    cast-book-on
+    array-read-book-on-2
+    book-on-requires
+    mul-x
+    element-set-from-x
+    add-i
+    loop-less
+    loop-again
+    returns)

@@ -1,0 +1,2 @@
+-- How the code checks the rows of a slate.
+pub mod Lines

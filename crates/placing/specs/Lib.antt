@@ -1,0 +1,2 @@
+-- How the code tells the reply of placing.
+pub mod Told
