@@ -11,6 +11,7 @@ mod interval_set;
 mod marked;
 mod paper;
 mod paper_side;
+mod place_speed;
 mod random;
 mod records;
 mod reference;
@@ -89,7 +90,7 @@ fn run(mode: &str, seed: u64, programs: &Path, folder: &Path) -> bool {
         "board" => runs::run(&runs::FULL, Some(Known::Board), seed, programs),
         "teeth" => teeth::run(seed),
         "vectors" => vectors::write(folder),
-        "speed" => speed::run(programs) & ask_speed::run(programs),
+        "speed" => speed::run(programs) & ask_speed::run(programs) & place_speed::run(programs),
         _ => panic!("no such mode"),
     }
 }
