@@ -4,9 +4,7 @@ pub mod Numbers
 pub mod Masks
 pub mod Seeing
 pub mod Facts
-pub mod Counting
 pub mod Setting
-pub mod Entering
 pub mod Replying
 pub mod Meaning
 pub mod Keeping

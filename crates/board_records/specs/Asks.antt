@@ -18,10 +18,10 @@ use Rattle.board.specs.Transport.{transportTo}
 use Rattle.board.specs.Valid.{valid}
 use Rattle.board_records.specs.declared.Desk.{Desk}
 use Rattle.board_records.specs.declared.Stepped.{Stepped}
-use Rattle.board_records.specs.declared.asks.Turn.{Turn}
-use Rattle.board_records.specs.declared.asks.Place.{Place}
-use Rattle.board_records.specs.declared.asks.Answer.{Answer}
-use Rattle.board_records.specs.declared.asks.Answer.the-variants.{Nothing as Silent, Lasts, Setup, Transport, Serves, No, Refused}
+use Rattle.board_records.specs.declared.queries.Turn.{Turn}
+use Rattle.board_records.specs.declared.queries.Place.{Place}
+use Rattle.board_records.specs.declared.queries.Answer.{Answer}
+use Rattle.board_records.specs.declared.queries.Answer.the-variants.{Nothing as Silent, Lasts, Setup, Transport, Serves, No, Refused}
 use Rattle.board_records.specs.Bodies.{byte, whole, bodyLen}
 use Rattle.board_records.specs.Records.{stepReply}
 

@@ -6,8 +6,8 @@ use records::Line;
 use records::number;
 use timeline::ResourceTimeline;
 
-pub mod asks;
 mod order;
+pub mod queries;
 
 ghost use mathlib.Core.Path.{_≡_};
 ghost use Prim.Native.Nat.{_+_, _≤_, _<_};
@@ -168,7 +168,8 @@ fn add(desk: Desk, bytes: &[u8], at: usize, count: usize) -> Stepped
     ensures { λ r. ⌜ r ≡ addDoes desk (now (bytes .entry)) at count ⌝ }
 {
     let skills = number(bytes, at + 2, 8);
-    let e = desk.board.add_resource(
+    let e = entering::add_resource(
+        desk.board,
         bytes[at],
         bytes[at + 1],
         skills,
@@ -202,17 +203,17 @@ fn entry(board: Board, kind: u8, bytes: &[u8], at: usize) -> Entered
     if kind == 17 {
         let default = signed(number(bytes, at + 1, 8));
         let initial = signed(number(bytes, at + 9, 8));
-        return board.set_matrix(first, default, initial);
+        return entering::set_matrix(board, first, default, initial);
     }
     if kind == 18 {
         let ms = signed(number(bytes, at + 3, 8));
-        return board.set_transition(first, second, bytes[at + 2], ms);
+        return entering::set_transition(board, first, second, bytes[at + 2], ms);
     }
     let ms = number(bytes, at + 2, 8);
     if kind == 19 {
-        return board.set_initial(first, second, signed(ms));
+        return entering::set_initial(board, first, second, signed(ms));
     }
-    board.set_transport(first, second, ms)
+    entering::set_transport(board, first, second, ms)
 }
 
 // What one record of a known kind does, its body beginning at `at`. A refused record changes nothing.

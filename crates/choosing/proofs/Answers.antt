@@ -8,9 +8,9 @@ use lib.ListN.{getD, length, take}
 use lib.Seq.{getD-take, length-take-le, take-suc}
 use Rattle.calendar.specs.Search.{Found, nothing, at}
 use Rattle.calendar.specs.Meaning.{least-found}
-use Rattle.timeline.specs.declared.core.Start.{Start}
-use Rattle.timeline.specs.declared.core.Start.the-variants.{At, Nothing}
-use Rattle.timeline.specs.Steps.{startOf}
+use Rattle.asks.specs.declared.core.Start.{Start}
+use Rattle.asks.specs.declared.core.Start.the-variants.{At, Nothing}
+use Rattle.asks.specs.Steps.{startOf}
 use Rattle.timeline.proofs.Rules as timeline-rules
 use Rattle.timeline.proofs.Stepping.{last-range}
 use Rattle.activity.specs.declared.ResourceRequirement.{ResourceRequirement}

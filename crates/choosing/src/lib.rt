@@ -3,9 +3,9 @@
 use activity::Activity;
 use activity::ResourceRequirement;
 use alone::Plan;
+use asks::core::Start;
 use board::Board;
 use scheduler::Hold;
-use timeline::core::Start;
 
 mod rank;
 

@@ -1,9 +1,9 @@
 // Fitting: the least start that suits all entries and the order's own calendar (the second half of `place_activity`, `place_resumable`
 // and `own_timeline` in scheduler/simple.rs; 01, 'Fitting').
+use asks::core::Start;
 use calendar::Calendar;
 use joint::WorkEnd;
 use timeline::ResourceTimeline;
-use timeline::core::Start;
 ghost use mathlib.Core.Path.{_≡_};
 ghost use mathlib.Core.Bool.{true, false, _&&_};
 ghost use mathlib.Core.List.{map};
@@ -12,7 +12,7 @@ ghost use lib.ListN.{length, take};
 ghost use Rattle.calendar.specs.Valid as calendar;
 ghost use Rattle.calendar.specs.Work.{joint, jointEnd};
 ghost use Rattle.joint.specs.Layout.{Layout, Ruled, foundOf};
-ghost use Rattle.timeline.specs.Steps.{startOf};
+ghost use Rattle.asks.specs.Steps.{startOf};
 ghost use lib.Dec.{leb};
 ghost use Rattle.scheduler.specs.Alone.{earliestOf};
 ghost use Rattle.scheduler.specs.Fitting.{calendarOf, allFree};
@@ -121,7 +121,7 @@ fn all_free(g: Closing, s: u64, e: u64) -> bool
     let mut i: usize = 0;
     while i < n {
         let t = g.timelines[i];
-        if !timeline::core::is_free(t, s, e, g.units[i]) {
+        if !asks::core::is_free(t, s, e, g.units[i]) {
             return false;
         }
         i += 1;
@@ -139,7 +139,7 @@ fn next_start(g: Closing, x: u64) -> u64
     let mut i: usize = 0;
     while i < n {
         let t = g.timelines[i];
-        let c = timeline::core::next_candidate(t, x);
+        let c = asks::core::next_candidate(t, x);
         if c < next {
             next = c;
         }

@@ -1,11 +1,11 @@
 // Placing an order on a board (`place_activity` in scheduler/simple.rs; 01, 'Placing' and its replies).
 use activity::Activity;
+use asks::core::Start;
 use board::Board;
 use entries::Entries;
 use entries::Together;
 use fitting::Closing;
 use fitting::Fit;
-use timeline::core::Start;
 ghost use mathlib.Core.Path.{_≡_};
 ghost use mathlib.Core.Bool.{true};
 ghost use mathlib.Core.List.{_++_, map};

@@ -1,5 +1,5 @@
 // What a record of a stream does to a diary and what it prints (01, 'Program slot'). Everything that `slot` decides is here.
-use timeline::Answer;
+use asks::Answer;
 use timeline::Booked;
 use timeline::ResourceTimeline;
 
@@ -14,7 +14,7 @@ ghost use lib.ListN.{length};
 ghost use mathlib.Core.Bool.{false};
 ghost use Rattle.records.specs.Lines.{lineOf, line as printed};
 ghost use Rattle.records.specs.Records.{bodyLen, steppedOf, turnOf, capacityReply, books, asks, recordDoes, turnReply};
-ghost use Rattle.timeline.specs.Ask.{replyOf};
+ghost use Rattle.asks.specs.Answers.{replyOf};
 
 // What a record prints.
 pub enum Line {
@@ -126,9 +126,12 @@ pub fn step(timeline: ResourceTimeline, kind: u8, bytes: &[u8], at: usize) -> St
         return told(timeline.book(first, second, units));
     }
     if kind == 5 {
-        return asked(timeline, timeline.earliest_fit(first, second, units));
+        return asked(timeline, asks::earliest_fit(timeline, first, second, units));
     }
-    asked(timeline, timeline.earliest_resumable(first, second, units))
+    asked(
+        timeline,
+        asks::earliest_resumable(timeline, first, second, units),
+    )
 }
 
 // The stream ends here, and prints the line.

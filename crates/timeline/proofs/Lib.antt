@@ -5,10 +5,6 @@ pub mod Rows
 pub mod Loading
 pub mod Columns
 pub mod Searching
-pub mod Listing
 pub mod Stepping
-pub mod Gaps
-pub mod Finding
-pub mod Trying
 pub mod Meaning
 pub mod Keeping

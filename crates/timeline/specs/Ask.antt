@@ -6,8 +6,6 @@ use lib.Dec.{ltb}
 use Rattle.calendar.specs.Search.{Found, nothing, at}
 use Rattle.calendar.specs.Work.{jointEnd}
 use Rattle.timeline.specs.declared.ResourceTimeline.{ResourceTimeline}
-use Rattle.timeline.specs.declared.Answer.{Answer}
-use Rattle.timeline.specs.declared.Answer.the-variants.{Fit, None, Refused}
 use Rattle.timeline.specs.Valid.{valid}
 use Rattle.timeline.specs.Earliest.{earliestFit, earliestResumable}
 
@@ -16,11 +14,6 @@ pub data Reply : Type 0 where
   fit : ℕ → ℕ → Reply
   none : Reply
   refused : ℕ → Reply
-
-unfoldable pub replyOf : Answer → Reply
-replyOf (Fit s e) = fit s e
-replyOf None = none
-replyOf (Refused n) = refused n
 
 -- a start, with the span behind it
 unfoldable pub unbroken : ℕ → Found → Reply

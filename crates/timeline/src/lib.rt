@@ -1,11 +1,10 @@
 // A diary: bookings by start with their running latest ends, a calendar and a capacity (scheduler/timeline.rs; 01, 'Diary' and the
-// replies of 'Booking' and 'Asking a diary').
+// replies of 'Booking').
 use calendar::Calendar;
-use joint::WorkEnd;
 
-pub mod core;
 mod insert;
 
+pub use insert::open_at;
 ghost use mathlib.Core.Path.{_≡_};
 ghost use mathlib.Core.Bool.{true};
 ghost use Prim.Native.Nat.{_-_, _^_, _≤_, _<_};
@@ -13,7 +12,6 @@ ghost use Rattle.calendar.specs.Add.{addWindow, addBlock};
 ghost use Rattle.timeline.specs.Bookings.{bookings, total};
 ghost use Rattle.timeline.specs.Valid.{cellRight, cellEmpty, filledFrom, emptyFrom, valid};
 ghost use Rattle.timeline.specs.Book.{capacityOf, newDiary, bookReply, calendarReply};
-ghost use Rattle.timeline.specs.Ask.{askRefusal, replyOf, fitReply, resumableReply};
 ghost use Rattle.timeline.specs.Reading.{readOf, capacityRead, bookedRead, latestRead};
 
 // 01: diary. The booking in cell i is starts[i], ends[i], units[i], and latest[i] the latest end of cells 0 to i (the Rust's
@@ -33,13 +31,6 @@ pub struct ResourceTimeline {
 pub struct Booked {
     pub refusal: u8,
     pub timeline: ResourceTimeline,
-}
-
-// What asking a diary answers: a start with its end, none, or a refusal's number.
-pub enum Answer {
-    Fit(u64, u64),
-    None,
-    Refused(u8),
 }
 
 // What reading a diary answers: a number, or a refusal's number.
@@ -161,25 +152,6 @@ pub fn is_valid(t: ResourceTimeline) -> bool
         return false;
     }
     t.booked == sum(t)
-}
-
-// The refusal of an ask by its numbers, 0 for none.
-fn ask_refusal(from: u64, span: u64, units: u32) -> u8
-    ensures { λ r. ⌜ r ≡ askRefusal from span units ⌝ }
-{
-    if from > 8796093022208 {
-        return 1;
-    }
-    if span > 9007199254740992 {
-        return 1;
-    }
-    if units < 1 {
-        return 3;
-    }
-    if units > 10000 {
-        return 3;
-    }
-    0
 }
 
 // A given capacity, and at least 1.
@@ -338,42 +310,5 @@ impl ResourceTimeline {
             return Reading::Value(0);
         }
         Reading::Value(self.latest[len - 1])
-    }
-
-    // The least start of an unbroken span, or refuses: 15 a diary that breaks the rules, 1 from or span, 3 units.
-    pub fn earliest_fit(self, from: u64, span: u64, units: u32) -> Answer
-        ensures { λ r. ⌜ replyOf r ≡ fitReply self from span units ⌝ }
-    {
-        if !is_valid(self) {
-            return Answer::Refused(15);
-        }
-        let refusal = ask_refusal(from, span, units);
-        if refusal != 0 {
-            return Answer::Refused(refusal);
-        }
-        let found = core::earliest_fit(self, from, span, units);
-        match found {
-            core::Start::At(s) => Answer::Fit(s, s + span),
-            core::Start::Nothing => Answer::None,
-        }
-    }
-
-    // The least start of resumable work with its end, or refuses as for an unbroken span.
-    pub fn earliest_resumable(self, from: u64, work: u64, units: u32) -> Answer
-        ensures { λ r. ⌜ replyOf r ≡ resumableReply self from work units ⌝ }
-    {
-        if !is_valid(self) {
-            return Answer::Refused(15);
-        }
-        let refusal = ask_refusal(from, work, units);
-        if refusal != 0 {
-            return Answer::Refused(refusal);
-        }
-        let r = core::earliest_resumable(self, from, work, units);
-        let end = r.end;
-        match end {
-            WorkEnd::At(e) => Answer::Fit(r.start, e),
-            WorkEnd::Nothing => Answer::None,
-        }
     }
 }

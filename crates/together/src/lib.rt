@@ -1,13 +1,13 @@
 // Several diaries together: the least start at which each has its units free (the Rust's `with_companions`; 01, 'Choosing').
+use asks::core::Start;
 use joint::WorkEnd;
 use timeline::ResourceTimeline;
-use timeline::core::Start;
 ghost use mathlib.Core.Path.{_≡_};
 ghost use mathlib.Core.Bool.{true};
 ghost use Prim.Native.Nat.{ℕ, _^_, _≤_, max};
 ghost use Rattle.calendar.specs.Search.{at};
 ghost use Rattle.timeline.specs.Valid.{valid};
-ghost use Rattle.timeline.specs.Steps.{startOf};
+ghost use Rattle.asks.specs.Steps.{startOf};
 ghost use Rattle.scheduler.specs.Alone.{earliestOf};
 ghost use Rattle.scheduler.specs.Shares.{startOn, sharesTo, Wanted};
 ghost use Rattle.scheduler.specs.Latest.{latestOf};
@@ -25,14 +25,14 @@ pub fn start_on(t: ResourceTimeline, resumable: bool, span: u64, units: u32, fro
     ensures { λ r. ⌜ startOf r ≡ startOn resumable span (record { timeline = t; units = units }) from ⌝ }
 {
     if resumable {
-        let r = timeline::core::earliest_resumable(t, from, span, units);
+        let r = asks::core::earliest_resumable(t, from, span, units);
         let end = r.end;
         return match end {
             WorkEnd::At(_) => Start::At(r.start),
             WorkEnd::Nothing => Start::Nothing,
         };
     }
-    timeline::core::earliest_fit(t, from, span, units)
+    asks::core::earliest_fit(t, from, span, units)
 }
 
 // The latest of the least starts from t on; nothing where one has none.

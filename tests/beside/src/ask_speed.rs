@@ -7,11 +7,9 @@ use crate::compare::Stream;
 use crate::records::{encode, Known, Record};
 use crate::reference::Reference;
 use crate::side::Side;
-use crate::sources::scratch;
-use crate::speed::timed;
+use crate::speed::timed_on;
 use std::hint::black_box;
 use std::path::Path;
-use std::process::Command;
 use std::time::Instant;
 
 /// Runs of each, of which the least counts.
@@ -106,10 +104,7 @@ pub fn run(programs: &Path) -> bool {
             let (each, starts_here) = rust(&streams[0]);
             (ours, sum) = (ours.min(each), starts_here);
             for (part, bytes) in streams.iter().enumerate() {
-                let file = scratch();
-                std::fs::write(&file, bytes).expect("the build folder takes a stream");
-                let (seconds, printed) = timed(&mut Command::new(&slot), &file);
-                let _ = std::fs::remove_file(&file);
+                let (seconds, printed) = timed_on(&slot, bytes);
                 least[part] = least[part].min(seconds);
                 good &= part == 1 || starts(&printed) == sum;
             }

@@ -88,6 +88,7 @@ fn run(mode: &str, seed: u64, programs: &Path, folder: &Path) -> bool {
         "marked" => marked::run_marked(programs),
         "refusals" => refusals::run_refusals(programs),
         "board" => runs::run(&runs::FULL, Some(Known::Board), seed, programs),
+        "offer" => runs::run(&runs::OFFER, Some(Known::Offer), seed, programs),
         "teeth" => teeth::run(seed),
         "vectors" => vectors::write(folder),
         "speed" => speed::run(programs) & ask_speed::run(programs) & place_speed::run(programs),

@@ -7,10 +7,8 @@ use crate::compare::Stream;
 use crate::records::{encode, Known, Record};
 use crate::reference::Reference;
 use crate::side::Side;
-use crate::sources::scratch;
-use crate::speed::timed;
+use crate::speed::timed_on;
 use std::path::Path;
-use std::process::Command;
 use std::time::Instant;
 
 /// Runs of each, of which the least counts.
@@ -96,10 +94,7 @@ pub fn run(programs: &Path) -> bool {
         ours = ours.min(seconds);
         placed = text.lines().filter(|l| l.starts_with("placed")).count();
         for (part, bytes) in streams.iter().enumerate() {
-            let file = scratch();
-            std::fs::write(&file, bytes).expect("the build folder takes a stream");
-            let (seconds, printed) = timed(&mut Command::new(&offer), &file);
-            let _ = std::fs::remove_file(&file);
+            let (seconds, printed) = timed_on(&offer, bytes);
             least[part] = least[part].min(seconds);
             good &= part == 1 || printed == text;
         }

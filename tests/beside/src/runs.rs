@@ -38,6 +38,8 @@ pub const FULL: Plan = Plan {
     spoilt: 4,
     boards: 4,
 };
+/// For `--offer`: every board goes to `offer`, with as many commitments as placings asked for.
+pub const OFFER: Plan = Plan { placings: 2_700_000, boards: 1, variants: 64, spoilt: 16, ..FULL };
 pub const SHORT: Plan = Plan {
     calendar_asks: 120_000,
     asks: 120_000,

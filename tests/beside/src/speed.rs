@@ -45,6 +45,15 @@ pub fn timed(command: &mut Command, file: &Path) -> (f64, String) {
     (began.elapsed().as_secs_f64(), String::from_utf8_lossy(&output.stdout).into_owned())
 }
 
+/// The same, of a program over some bytes.
+pub fn timed_on(program: &Path, bytes: &[u8]) -> (f64, String) {
+    let file = scratch();
+    std::fs::write(&file, bytes).expect("the build folder takes a stream");
+    let both = timed(&mut Command::new(program), &file);
+    let _ = std::fs::remove_file(&file);
+    both
+}
+
 /// The programs timed: the Rust by this program itself, and calendar_runs where it is there.
 fn commands(programs: &Path) -> Vec<(String, PathBuf, Vec<&'static str>)> {
     let own = std::env::current_exe().expect("this program has a path");

@@ -5,7 +5,7 @@ use Rattle.alone.proofs.with_companions.Lts as lts
 use Rattle.alone.proofs.group_of.Reads as group-of-reads
 use Rattle.together.proofs.earliest_start.Reads as earliest-start-reads
 use mathlib.Core.Path.{_≡_, refl, _∙_}
-use Rattle.timeline.specs.Steps.{startOf}
+use Rattle.asks.specs.Steps.{startOf}
 use Rattle.scheduler.specs.Alone.{withCompanions}
 use Rattle.board.proofs.Facts.{rules}
 use Rattle.board.proofs.Meaning.{resource-of}

@@ -7,7 +7,7 @@ use Rattle.fitting.proofs.fit_resumable.Reads as fit-resumable-reads
 use Rattle.fitting.proofs.fit_unbroken.Reads as fit-unbroken-reads
 use mathlib.Core.Path.{_≡_, refl, sym, ap, _∙_}
 use native.Mathlib.Omega.{arith}
-use Rattle.timeline.specs.Steps.{startOf}
+use Rattle.asks.specs.Steps.{startOf}
 use Rattle.fitting.specs.Jointly.{fitOf}
 use Rattle.placing.specs.Told.{unbroken, closing}
 use Rattle.scheduler.specs.Shares.{sharesTo}

@@ -1,7 +1,7 @@
 -- `records::line_of` meets its contract: each case of the answer is the case of the line.
 use borrow.Author.Needs.{needs}
 use mathlib.Core.Path.{sym, ap}
-use Rattle.timeline.specs.Ask.{replyOf}
+use Rattle.asks.specs.Answers.{replyOf}
 use Rattle.records.specs.Lines.{line, lineOf}
 use Rattle.records.proofs.line_of.Statement.{statement}
 use Rattle.records.proofs.line_of.Tie as tie

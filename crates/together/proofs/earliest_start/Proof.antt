@@ -6,7 +6,7 @@ use Prim.Native.Nat.{_-_, _≤_}
 use native.Mathlib.Omega.{arith}
 use borrow.Author.Needs.{needs}
 use Rattle.calendar.specs.Search.{nothing, at}
-use Rattle.timeline.specs.Steps.{startOf}
+use Rattle.asks.specs.Steps.{startOf}
 use Rattle.scheduler.specs.Alone.{allStart}
 use Rattle.scheduler.specs.Events.{eventsOf}
 use Rattle.scheduler.specs.Shares.{sharesTo}

@@ -7,7 +7,7 @@ use mathlib.Core.Logic.{⊎-elim}
 use native.Mathlib.Omega.{arith}
 use borrow.Author.Needs.{needs}
 use Rattle.calendar.specs.Search.{nothing, at}
-use Rattle.timeline.specs.Steps.{startOf}
+use Rattle.asks.specs.Steps.{startOf}
 use Rattle.scheduler.specs.Shares.{startOn, sharesTo}
 use Rattle.scheduler.specs.Latest.{latestOf, latest-on, latest-off}
 

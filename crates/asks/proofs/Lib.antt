@@ -1,0 +1,5 @@
+-- Laws on plain values, for the proofs of this crate.
+pub mod Listing
+pub mod Gaps
+pub mod Finding
+pub mod Trying
