@@ -38,7 +38,7 @@ pub const FULL: Plan = Plan {
     spoilt: 4,
     boards: 4,
 };
-/// For `--offer`: every board goes to `offer`, with as many commitments as placings asked for.
+/// For `--offer`: every board goes to `offer`.
 pub const OFFER: Plan = Plan { placings: 2_700_000, boards: 1, variants: 64, spoilt: 16, ..FULL };
 pub const SHORT: Plan = Plan {
     calendar_asks: 120_000,
