@@ -5,6 +5,7 @@ use mathlib.Core.List.{List, [], _∷_, _++_, map}
 use Prim.Native.Nat.{ℕ, zero, suc, _+_, _-_, _≤_, _<_}
 use native.Mathlib.Omega.{arith}
 use lib.ListN.{getD, length, take}
+use lib.Seq.{take-suc}
 use Rattle.calendar.specs.declared.Calendar.{Calendar}
 use Rattle.calendar.specs.Basics.{and-true, and-false, and-assoc}
 use Rattle.joint.specs.Layout.{blank}
@@ -14,12 +15,10 @@ use Rattle.timeline.proofs.Stepping.{Still}
 use Rattle.board.specs.Resources.{noDiary}
 use Rattle.scheduler.specs.Alone.{Share}
 use Rattle.scheduler.specs.Fitting.{calendarOf, allFree}
-use Rattle.scheduler.specs.Shares.{sharesTo}
+use Rattle.scheduler.specs.Arrays.{map-append}
+use Rattle.scheduler.specs.Shares.{shareAt, sharesTo}
 use Rattle.scheduler.specs.Lists.{Each, each-end, each-on, each-append}
 use Rattle.scheduler.specs.Together.{Calm}
-
-abbrev pub shareAt : List ResourceTimeline → List ℕ → ℕ → Share
-shareAt ts us i = record { timeline = getD ts i noDiary; units = getD us i 0 }
 
 pub shares-next : (ts : List ResourceTimeline) (us : List ℕ) (i : ℕ) → sharesTo ts us (i + 1) ≡ sharesTo ts us i ++ (shareAt ts us i ∷ [])
 unfolding sharesTo
@@ -60,19 +59,10 @@ pub calm-none : (ts : List ResourceTimeline) (us : List ℕ) (y : ℕ) → Calm 
 unfolding sharesTo
 calm-none ts us y = each-end
 
-take-next : (cs : List Calendar) (n : ℕ) → n < length cs → take (suc n) cs ≡ take n cs ++ (getD cs n blank ∷ [])
-take-next [] n l = absurd (omega arith)
-take-next (c ∷ cs) zero l = refl
-take-next (c ∷ cs) (suc n) l = ap {B = List Calendar} (λ r. c ∷ r) (take-next cs n (omega arith))
-
-map-snoc : (xs : List Share) (x : Share) → map calendarOf (xs ++ (x ∷ [])) ≡ map calendarOf xs ++ (calendarOf x ∷ [])
-map-snoc [] x = refl
-map-snoc (y ∷ xs) x = ap {B = List Calendar} (λ r. calendarOf y ∷ r) (map-snoc xs x)
-
 -- calendars that are the diaries', cell by cell, are those of the shares
 pub calendars-are : (cs : List Calendar) (ts : List ResourceTimeline) (us : List ℕ) (n : ℕ) → n ≤ length cs → ((k : ℕ) → k < n → getD cs k blank ≡ getD ts k noDiary .calendar) → take n cs ≡ map calendarOf (sharesTo ts us n)
 unfolding sharesTo
 calendars-are cs ts us zero l f = refl
 calendars-are cs ts us (suc n) l f =
-    take-next cs n (omega arith)
-    ∙ rw (calendars-are cs ts us n (omega arith) (λ k h. f k (omega arith)), f n (omega arith)) (sym (map-snoc (sharesTo ts us n) (shareAt ts us n)))
+    take-suc cs n blank (omega arith)
+    ∙ rw (calendars-are cs ts us n (omega arith) (λ k h. f k (omega arith)), f n (omega arith)) (sym (map-append calendarOf (sharesTo ts us n) (shareAt ts us n ∷ [])))

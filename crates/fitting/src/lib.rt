@@ -18,7 +18,6 @@ ghost use Rattle.scheduler.specs.Alone.{earliestOf};
 ghost use Rattle.scheduler.specs.Fitting.{calendarOf, allFree};
 ghost use Rattle.scheduler.specs.Shares.{sharesTo, Wanted};
 ghost use Rattle.scheduler.specs.Together.{Calm};
-ghost use Rattle.scheduler.specs.Latest.{latestOf};
 ghost use Rattle.scheduler.specs.Owning.{ownShare};
 ghost use Rattle.fitting.specs.Jointly.{endFree, jointly, fitOf, ended};
 
@@ -43,55 +42,28 @@ pub fn own_timeline(calendar: Calendar) -> ResourceTimeline
     t
 }
 
-// The latest of the least starts from t on; nothing where one has none.
-fn latest_fit(g: Closing, span: u64, t: u64) -> Start
-    requires { ⌜ (g .len ≤ 25) × Wanted (g .timelines) (g .units) (g .len) × (t ≤ 2 ^ 43) × (span ≤ 2 ^ 53) ⌝ }
-    ensures { λ r. ⌜ startOf r ≡ latestOf false span (sharesTo (g .timelines) (g .units) (g .len)) t ⌝ }
+// Unbroken: the least start on all of them.
+pub fn fit_unbroken(g: Closing, span: u64, from: u64) -> Start
+    requires { ⌜ (g .len ≤ 25) × Wanted (g .timelines) (g .units) (g .len) × (from ≤ 2 ^ 43) × (span ≤ 2 ^ 53) ⌝ }
+    ensures { λ r. ⌜ startOf r ≡ earliestOf false span (sharesTo (g .timelines) (g .units) (g .len)) from ⌝ }
 {
     let n = g.len;
-    let mut latest = t;
+    let mut t = from;
     let mut i: usize = 0;
     while i < n {
         let d = g.timelines[i];
         let s = together::start_on(d, false, span, g.units[i], t);
         match s {
             Start::At(x) => {
-                if latest < x {
-                    latest = x;
-                }
+                i = together::next_asked(i, x == t);
+                t = x;
             }
             Start::Nothing => {
                 return Start::Nothing;
             }
         }
-        i += 1;
     }
-    Start::At(latest)
-}
-
-// Unbroken: the least start on all of them.
-pub fn fit_unbroken(g: Closing, span: u64, from: u64) -> Start
-    requires { ⌜ (g .len ≤ 25) × Wanted (g .timelines) (g .units) (g .len) × (from ≤ 2 ^ 43) × (span ≤ 2 ^ 53) ⌝ }
-    ensures { λ r. ⌜ startOf r ≡ earliestOf false span (sharesTo (g .timelines) (g .units) (g .len)) from ⌝ }
-{
-    let mut t = from;
-    let mut i: u64 = 0;
-    while i < 10000 {
-        let s = latest_fit(g, span, t);
-        match s {
-            Start::At(u) => {
-                if u == t {
-                    return Start::At(t);
-                }
-                t = u;
-            }
-            Start::Nothing => {
-                return Start::Nothing;
-            }
-        }
-        i += 1;
-    }
-    Start::Nothing
+    Start::At(t)
 }
 
 // The calendars of the first `len` diaries.

@@ -65,7 +65,7 @@ module _ {A : Type 0} (P : A → Type 0) (d : A) where
   each-cells (suc n) (x ∷ xs) l h = each-on (h 0 (omega arith)) (each-cells n xs (omega arith) (λ k i. h (suc k) (omega arith)))
 
 module _ {A : Type 0} (P : A → Bool) where
-  every-append : (xs ys : List A) → every P (xs ++ ys) ≡ every P xs && every P ys
+  pub every-append : (xs ys : List A) → every P (xs ++ ys) ≡ every P xs && every P ys
   unfolding every
   every-append [] ys = refl
   every-append (x ∷ xs) ys = ap (λ (p : Bool). P x && p) (every-append xs ys) ∙ sym (and-assoc (P x) (every P xs) (every P ys))

@@ -16,7 +16,7 @@ use Rattle.calendar.specs.Valid as calendar
 use Rattle.calendar.proofs.Rules as calendar-rules
 use Rattle.timeline.specs.declared.ResourceTimeline.{ResourceTimeline}
 use Rattle.timeline.specs.Book.{diary}
-use Rattle.timeline.proofs.Meaning.{Earliest}
+use Rattle.timeline.proofs.Searching.{Sought, sought-start}
 use Rattle.activity.specs.declared.ResourceRequirement.{ResourceRequirement}
 use Rattle.activity.specs.declared.Activity.{Activity}
 use Rattle.activity.specs.Check.{every, requirementsOf}
@@ -37,7 +37,7 @@ use Rattle.scheduler.specs.Events.{events, eventsOf, among-append, above
 use Rattle.scheduler.specs.Chosen.{Chooses, rounds-mean}
 use Rattle.scheduler.specs.Ruled.{eventsOn, events-length, on-event, on-valid, all-kept, all-listed, points, points-length, events-board}
 use Rattle.scheduler.specs.Closing.{fitting-answers}
-use Rattle.scheduler.specs.Latest.{latestOf, Step, Latest, latest-says, Rising, rising-start, rising-on, rising-found, rising-none, together-answers, events-count}
+use Rattle.scheduler.specs.Latest.{latestOf, Step, Latest, latest-says, sought-past, sought-never, together-answers, events-count}
 use Rattle.scheduler.specs.Owning.{ownShare, own-valid, suitsOn, suits-on}
 
 -- from an instant to the latest of the least starts from it, until it stays; at most n times
@@ -51,28 +51,28 @@ steps (suc n) L t = stepped t (L t) (steps n L)
 
 -- with more rounds than listed instants, the steps end in the least instant that passes
 module _ (P : ℕ → Bool) (L : ℕ → Found) (l : List ℕ) (says : (t : ℕ) → Latest P l t (L t)) (from : ℕ) where
-  walk : (n t i : ℕ) → Rising P l from t i → above l t < n → Answers P from (steps n L t)
+  walk : (n t : ℕ) → Sought P from t → above l t < n → Answers P from (steps n L t)
   unfolding steps stepped
-  walk zero t i r h = absurd (omega arith)
-  walk (suc n) t i r h = go (L t) (says t) (λ u. walk n u (i + 1))
+  walk zero t r h = absurd (omega arith)
+  walk (suc n) t r h = go (L t) (says t) (walk n)
     where
-      one : (u : ℕ) → Step P l t u → (q : Bool) → eqb u t ≡ q → (Rising P l from u (i + 1) → above l u < n → Answers P from (steps n L u)) → Answers P from (cond q (at t) (steps n L u))
-      one u s true e again = rising-found P l from t i u r s (eqb-true u t e)
+      one : (u : ℕ) → Step P l t u → (q : Bool) → eqb u t ≡ q → (Sought P from u → above l u < n → Answers P from (steps n L u)) → Answers P from (cond q (at t) (steps n L u))
+      one u s true e again = record { low = r .low; holds = s .here (eqb-true u t e); first = r .none }
       one u s false e again =
           let ne = eqb-false u t e in
-          again (rising-on P l from t i u r s ne) (omega (arith, above-falls l t u (omega (arith, s .low)) (⊎-elim (λ (z : u ≡ t). absurd (ne z)) (λ (z : among u l ≡ true). z) (s .listed))))
+          again (sought-past P from t u r (s .low) (s .none)) (omega (arith, above-falls l t u (omega (arith, s .low)) (⊎-elim (λ (z : u ≡ t). absurd (ne z)) (λ (z : among u l ≡ true). z) (s .listed))))
 
-      go : (f : Found) → Latest P l t f → ((u : ℕ) → Rising P l from u (i + 1) → above l u < n → Answers P from (steps n L u)) → Answers P from (stepped t f (steps n L))
-      go nothing w again = rising-none P l from t i r w
+      go : (f : Found) → Latest P l t f → ((u : ℕ) → Sought P from u → above l u < n → Answers P from (steps n L u)) → Answers P from (stepped t f (steps n L))
+      go nothing w again = sought-never P from t r w
       go (at u) w again = one u w (eqb u t) refl (again u)
 
   pub steps-mean : (n : ℕ) → length l < n → Answers P from (steps n L from)
-  steps-mean n h = walk n from 0 (rising-start P l from) (omega (arith, above-length l from))
+  steps-mean n h = walk n from (sought-start P from) (omega (arith, above-length l from))
 
 -- a list that holds more instants
 latest-wider : (P : ℕ → Bool) (l m : List ℕ) (t : ℕ) (f : Found) → ((x : ℕ) → among x l ≡ true → among x m ≡ true) → Latest P l t f → Latest P m t f
 latest-wider P l m t nothing f w = w
-latest-wider P l m t (at u) f w = record { low = w .low; none = w .none; here = w .here; listed = ⊎-elim (λ (e : u ≡ t). inl e) (λ (e : among u l ≡ true). inr (f u e)) (w .listed); range = w .range }
+latest-wider P l m t (at u) f w = record { low = w .low; none = w .none; here = w .here; listed = ⊎-elim (λ (e : u ≡ t). inl e) (λ (e : among u l ≡ true). inr (f u e)) (w .listed) }
 
 -- Choosing: any number of rounds above 2,064 gives the choice.
 choices-same : (P : ℕ → Bool) (H : ℕ → List Held) (ready : ℕ) (f g : Choice) → Chooses P H ready f → Chooses P H ready g → f ≡ g

@@ -28,6 +28,7 @@ pub mod Runs
 pub mod Committed
 pub mod Reported
 pub mod Latest
+pub mod Asking
 pub mod Owning
 pub mod Counting
 pub mod Meaning

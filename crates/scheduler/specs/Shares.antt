@@ -15,10 +15,13 @@ use Rattle.scheduler.specs.Alone.{Share}
 unfoldable pub startOn : Bool → ℕ → Share → ℕ → Found
 startOn resumable span x t = cond resumable (earliestResumable (x .timeline) t span (x .units)) (earliestFit (x .timeline) t span (x .units))
 
--- the shares in the first n cells of two arrays
+-- the share in a cell of two arrays, and those in the first n cells
+abbrev pub shareAt : List ResourceTimeline → List ℕ → ℕ → Share
+shareAt ts us k = record { timeline = getD ts k noDiary; units = getD us k 0 }
+
 unfoldable pub sharesTo : List ResourceTimeline → List ℕ → ℕ → List Share
 sharesTo ts us zero = []
-sharesTo ts us (suc n) = sharesTo ts us n ++ (record { timeline = getD ts n noDiary; units = getD us n 0 } ∷ [])
+sharesTo ts us (suc n) = sharesTo ts us n ++ (shareAt ts us n ∷ [])
 
 -- the first n diaries keep the rules, and at least a unit is wanted of each
 pub record Wanted (ts : List ResourceTimeline) (us : List ℕ) (n : ℕ) : Type 0 where

@@ -4,13 +4,12 @@ use joint::WorkEnd;
 use timeline::ResourceTimeline;
 ghost use mathlib.Core.Path.{_≡_};
 ghost use mathlib.Core.Bool.{true};
-ghost use Prim.Native.Nat.{ℕ, _^_, _≤_, max};
-ghost use Rattle.calendar.specs.Search.{at};
+ghost use Prim.Native.Nat.{_^_, _≤_, _<_};
 ghost use Rattle.timeline.specs.Valid.{valid};
 ghost use Rattle.asks.specs.Steps.{startOf};
 ghost use Rattle.scheduler.specs.Alone.{earliestOf};
 ghost use Rattle.scheduler.specs.Shares.{startOn, sharesTo, Wanted};
-ghost use Rattle.scheduler.specs.Latest.{latestOf};
+ghost use Rattle.scheduler.specs.Asking.{nextAsked};
 
 // A resource and its companions: the first `len` diaries, with the units wanted of each.
 pub struct Group {
@@ -35,30 +34,18 @@ pub fn start_on(t: ResourceTimeline, resumable: bool, span: u64, units: u32, fro
     asks::core::earliest_fit(t, from, span, units)
 }
 
-// The latest of the least starts from t on; nothing where one has none.
-fn latest_start(g: Group, resumable: bool, span: u64, t: u64) -> Start
-    requires { ⌜ (g .len ≤ 5) × Wanted (g .timelines) (g .units) (g .len) × (t ≤ 2 ^ 43) × (span ≤ 2 ^ 53) ⌝ }
-    ensures { λ r. ⌜ startOf r ≡ latestOf resumable span (sharesTo (g .timelines) (g .units) (g .len)) t ⌝ }
+// The diary to ask after the i-th: the next, and the first again where the start has moved on past those in front.
+pub fn next_asked(i: usize, stays: bool) -> usize
+    requires { ⌜ i < 2 ^ 63 ⌝ }
+    ensures { λ r. ⌜ r ≡ nextAsked i stays ⌝ }
 {
-    let n = g.len;
-    let mut latest = t;
-    let mut i: usize = 0;
-    while i < n {
-        let d = g.timelines[i];
-        let s = start_on(d, resumable, span, g.units[i], t);
-        match s {
-            Start::At(x) => {
-                if latest < x {
-                    latest = x;
-                }
-            }
-            Start::Nothing => {
-                return Start::Nothing;
-            }
-        }
-        i += 1;
+    if i == 0 {
+        return 1;
     }
-    Start::At(latest)
+    if stays {
+        return i + 1;
+    }
+    0
 }
 
 // The least start on all of them.
@@ -66,22 +53,21 @@ pub fn earliest_start(g: Group, resumable: bool, span: u64, from: u64) -> Start
     requires { ⌜ (g .len ≤ 5) × Wanted (g .timelines) (g .units) (g .len) × (from ≤ 2 ^ 43) × (span ≤ 2 ^ 53) ⌝ }
     ensures { λ r. ⌜ startOf r ≡ earliestOf resumable span (sharesTo (g .timelines) (g .units) (g .len)) from ⌝ }
 {
+    let n = g.len;
     let mut t = from;
-    let mut i: u64 = 0;
-    while i < 10000 {
-        let s = latest_start(g, resumable, span, t);
+    let mut i: usize = 0;
+    while i < n {
+        let d = g.timelines[i];
+        let s = start_on(d, resumable, span, g.units[i], t);
         match s {
-            Start::At(u) => {
-                if u == t {
-                    return Start::At(t);
-                }
-                t = u;
+            Start::At(x) => {
+                i = next_asked(i, x == t);
+                t = x;
             }
             Start::Nothing => {
                 return Start::Nothing;
             }
         }
-        i += 1;
     }
-    Start::Nothing
+    Start::At(t)
 }

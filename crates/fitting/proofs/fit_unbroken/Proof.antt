@@ -1,85 +1,85 @@
--- `fitting::fit_unbroken` meets its contract. The loop: nothing suits before the instant at hand (Latest).
+-- `fitting::fit_unbroken` meets its contract. The loop: nothing suits all before the instant at hand, and that suits those asked (Asking).
 use Rattle.fitting.proofs.fit_unbroken.Statement.{statement}
 use Rattle.fitting.proofs.fit_unbroken.Tie as tie
-use mathlib.Core.Bool.{false}
 use mathlib.Core.Path.{sym, ap, _∙_}
-use Prim.Native.Nat.{_-_, _≤_}
+use mathlib.Core.Bool.{false}
+use Prim.Native.Nat.{_+_, _-_, _*_, _^_}
 use native.Mathlib.Omega.{arith}
 use borrow.Author.Needs.{needs}
-use Rattle.calendar.specs.Search.{nothing, at}
 use Rattle.asks.specs.Steps.{startOf}
-use Rattle.scheduler.specs.Alone.{allStart}
-use Rattle.scheduler.specs.Events.{eventsOf}
-use Rattle.scheduler.specs.Shares.{sharesTo}
-use Rattle.scheduler.specs.Latest.{Rising, rising-start, rising-on, rising-found, rising-none, step-at, step-none, steps-few, together-is, wanted-sound, shares-length}
+use Rattle.scheduler.specs.Asking.{Asked, asked-start, asked-on, asked-none, asked-less, asked-all}
 
 abbrev Inv-loop : tie.InvT-loop
-Inv-loop g span from t₀ i₀ t i = (i ≤ 10000) × Rising (allStart false span (sharesTo (g .timelines) (g .units) (g .len))) (eventsOf (sharesTo (g .timelines) (g .units) (g .len))) from t i
+Inv-loop span from g n t₀ i₀ t i = Asked false span (g .timelines) (g .units) (g .len) from t i
 
 abbrev μ-loop : tie.MeasureT-loop
-μ-loop g span from t₀ i₀ t i = 10000 - i
+μ-loop span from g n t₀ i₀ t i = (2 ^ 43 - t) * 32 + (g .len - i)
 
 loop-holds : tie.Need-loop-holds Inv-loop μ-loop
-loop-holds c = (omega arith, rising-start _ _ _)
+loop-holds c = asked-start _ _ _ _ _ _ (c .pre .2)
 
-latest-fit-requires : tie.Need-latest-fit-requires Inv-loop μ-loop
-latest-fit-requires c κs =
-    let p = c .before .before .pre in
-    (p .0, p .1, omega (arith, c .before .loop .inv .1 .range, p .2), p .3)
+mul-d : tie.Need-mul-d Inv-loop μ-loop
+mul-d c = search needs
+
+element-copy-out-d : tie.Need-element-copy-out-d Inv-loop μ-loop
+element-copy-out-d c = search needs
+
+mul-start-on : tie.Need-mul-start-on Inv-loop μ-loop
+mul-start-on c = search needs
+
+element-copy-out-start-on : tie.Need-element-copy-out-start-on Inv-loop μ-loop
+element-copy-out-start-on c = search needs
+
+start-on-requires : tie.Need-start-on-requires Inv-loop μ-loop
+start-on-requires c κs =
+    let p = c .before .before .before .before .pre in
+    let k = c .before .before .before .loop in
+    let l = c .before .before .loop-test .taken in
+    (p .1 .kept (k .i) l, k .inv .range, p .3, p .1 .some (k .i) l)
 
 enum-known-s : tie.Need-enum-known-s Inv-loop μ-loop
 enum-known-s c = search needs
+
+next-asked-requires : tie.Need-next-asked-requires Inv-loop μ-loop
+next-asked-requires c κs = search needs
+
+loop-less : tie.Need-loop-less Inv-loop μ-loop
+unfolding startOf
+loop-less c =
+    let a = c .before .before .before .before .before .before .before .before .before .args in
+    let p = c .before .before .before .before .before .before .before .before .before .pre in
+    let k = c .before .before .before .before .before .before .before .before .loop in
+    let s = c .before .before .s .given in
+    let e = sym (c .before .before .before .before .start-on .ensures) ∙ ap startOf (s .1) in
+    rw (c .next-asked .ensures) (asked-less false (a .span) (a .t1 .timelines) (a .t1 .units) (a .t1 .len) (a .from) (k .t) (k .i) (p .1) (k .inv) (c .before .before .before .before .before .before .before .loop-test .taken) (s .0 .0) (omega (arith, p .0)) e)
+
+loop-again : tie.Need-loop-again Inv-loop μ-loop
+unfolding startOf
+loop-again c =
+    let a = c .before .before .before .before .before .before .before .before .before .args in
+    let p = c .before .before .before .before .before .before .before .before .before .pre in
+    let k = c .before .before .before .before .before .before .before .before .loop in
+    let s = c .before .before .s .given in
+    let e = sym (c .before .before .before .before .start-on .ensures) ∙ ap startOf (s .1) in
+    rw (c .next-asked .ensures) (asked-on false (a .span) (a .t1 .timelines) (a .t1 .units) (a .t1 .len) (a .from) (k .t) (k .i) (p .1) (k .inv) (c .before .before .before .before .before .before .before .loop-test .taken) (s .0 .0) e)
+
+enum-told : tie.Need-enum-told Inv-loop μ-loop
+enum-told c = search needs
 
 returns : tie.Need-returns Inv-loop μ-loop
 unfolding startOf
 returns c =
     let a = c .before .before .before .before .before .before .before .args in
-    let p = c .before .before .before .before .before .before .before .pre in
-    let xs = (sharesTo (a .g .timelines) (a .g .units) (a .g .len)) in
-    let v = wanted-sound (a .g .timelines) (a .g .units) (a .g .len) (p .1) in
-    let s = c .before .before .s .given in
-    let e = sym (c .before .before .before .before .latest-fit .ensures) ∙ ap startOf (s .1) in
-    together-is false (a .span) xs (a .from) (at (c .before .before .before .before .before .before .loop .t)) v
-    (rising-found _ _ _ _ _ _ (c .before .before .before .before .before .before .loop .inv .1) (step-at false (a .span) xs v (c .before .before .before .before .before .before .loop .t) (s .0 .0) e) (c .if1 .taken))
-
-enum-told : tie.Need-enum-told Inv-loop μ-loop
-enum-told c = search needs
+    let k = c .before .before .before .before .before .before .loop in
+    let e = sym (c .before .before .start-on .ensures) ∙ ap startOf (c .enum-told .given .1) in
+    asked-none false (a .span) (a .t1 .timelines) (a .t1 .units) (a .t1 .len) (a .from) (k .t) (k .i) (c .before .before .before .before .before .before .before .pre .1) (k .inv) (c .before .before .before .before .before .loop-test .taken) e
 
 returns-2 : tie.Need-returns-2 Inv-loop μ-loop
 unfolding startOf
 returns-2 c =
-    let a = c .before .before .before .before .before .args in
-    let p = c .before .before .before .before .before .pre in
-    let xs = (sharesTo (a .g .timelines) (a .g .units) (a .g .len)) in
-    let v = wanted-sound (a .g .timelines) (a .g .units) (a .g .len) (p .1) in
-    let e = sym (c .before .before .latest-fit .ensures) ∙ ap startOf (c .enum-told .given .1) in
-    together-is false (a .span) xs (a .from) nothing v
-    (rising-none _ _ _ _ _ (c .before .before .before .before .loop .inv .1) (step-none false (a .span) xs v (c .before .before .before .before .loop .t) e))
-
-add-i : tie.Need-add-i Inv-loop μ-loop
-add-i c = search needs
-
-loop-less : tie.Need-loop-less Inv-loop μ-loop
-loop-less c = search needs
-
-loop-again : tie.Need-loop-again Inv-loop μ-loop
-unfolding startOf
-loop-again c =
-    let a = c .before .before .before .before .before .before .before .args in
-    let p = c .before .before .before .before .before .before .before .pre in
-    let xs = (sharesTo (a .g .timelines) (a .g .units) (a .g .len)) in
-    let v = wanted-sound (a .g .timelines) (a .g .units) (a .g .len) (p .1) in
-    let s = c .before .before .s .given in
-    let e = sym (c .before .before .before .before .latest-fit .ensures) ∙ ap startOf (s .1) in
-    (omega arith, rising-on _ _ _ _ _ _ (c .before .before .before .before .before .before .loop .inv .1) (step-at false (a .span) xs v (c .before .before .before .before .before .before .loop .t) (s .0 .0) e) (c .if1 .left))
-
-returns-3 : tie.Need-returns-3 Inv-loop μ-loop
-returns-3 c =
     let a = c .before .before .args in
-    let p = c .before .before .pre in
-    let xs = (sharesTo (a .g .timelines) (a .g .units) (a .g .len)) in
-    let v = wanted-sound (a .g .timelines) (a .g .units) (a .g .len) (p .1) in
-    absurd (omega (arith, c .loop-test .left, c .before .loop .inv .0, steps-few _ xs _ _ _ v (c .before .loop .inv .1), shares-length (a .g .timelines) (a .g .units) (a .g .len), p .0))
+    let k = c .before .loop in
+    asked-all false (a .span) (a .t1 .timelines) (a .t1 .units) (a .t1 .len) (a .from) (k .t) (k .i) (c .before .before .pre .1) (k .inv) (omega arith)
 
 pub fit-unbroken-spec : {M : Type 1} → statement M
 fit-unbroken-spec =
@@ -88,12 +88,15 @@ fit-unbroken-spec =
     Inv-loop
     μ-loop
     loop-holds
-    latest-fit-requires
+    mul-d
+    element-copy-out-d
+    mul-start-on
+    element-copy-out-start-on
+    start-on-requires
     enum-known-s
-    returns
-    enum-told
-    returns-2
-    add-i
+    next-asked-requires
     loop-less
     loop-again
-    returns-3)
+    enum-told
+    returns
+    returns-2)
