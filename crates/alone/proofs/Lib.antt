@@ -1,4 +1,4 @@
 -- The proofs of the functions.
 mod Planning
-mod Gathering
+pub mod Seating
 pub mod Single

@@ -2,20 +2,18 @@
 use Prim.Native.Nat.{ℕ, _+_, _≤_, _<_}
 use mathlib.Core.Path.{_≡_}
 use mathlib.Core.Bool.{Bool, true, false, cond}
-use mathlib.Core.List.{List, _∷_, map}
-use lib.ListN.{getD}
-use Rattle.calendar.specs.Search.{Found, nothing}
-use Rattle.timeline.specs.declared.ResourceTimeline.{ResourceTimeline}
+use mathlib.Core.List.{List}
+use lib.ListN.{getD, length, take}
+use Rattle.calendar.specs.Search.{Found, nothing, at}
 use Rattle.activity.specs.declared.Activity.{Activity}
 use Rattle.activity.specs.Check.{every}
 use Rattle.board.specs.declared.Resource.{Resource}
 use Rattle.board.specs.declared.Board.{Board}
 use Rattle.board.specs.Resources.{resourceAt, lookup, onBoard}
 use Rattle.board.specs.Places.{placeOf}
-use Rattle.scheduler.specs.Alone.{earliestOf, companionsOf, oneUnit, withCompanions, durationAlone, spanAlone, arrival}
-use Rattle.scheduler.specs.Shares.{sharesTo, Wanted}
+use Rattle.scheduler.specs.Alone.{earliestOf, companionsOf, withCompanions, durationAlone, spanAlone, arrival}
 use Rattle.alone.specs.declared.Plan.{Plan}
-use Rattle.alone.specs.declared.Grouped.{Grouped}
+use Rattle.alone.specs.declared.Members.{Members}
 
 -- the least start where its companions also fit; a companion not on the board rules it out
 unfoldable pub startWith : Board → Resource → ℕ → Bool → ℕ → ℕ → Found
@@ -31,10 +29,14 @@ pub record Planned (b : Board) (a : Activity) (ready : ℕ) (p : Plan) : Type 0 
   pub spans : (i : ℕ) → i < b .len → getD (p .spans) i 0 ≡ spanAlone a (resourceAt b i)
   pub processes : (i : ℕ) → i < b .len → getD (p .processes) i 0 ≡ durationAlone a (resourceAt b i) .process
   pub arrivals : (i : ℕ) → i < b .len → getD (p .arrivals) i 0 ≡ arrival b a ready (resourceAt b i)
+  pub numbers : (i : ℕ) → i < b .len → getD (p .numbers) i 0 ≡ resourceAt b i .number
+  pub kinds : (i : ℕ) → i < b .len → getD (p .kinds) i 0 ≡ resourceAt b i .kind
+  pub skills : (i : ℕ) → i < b .len → getD (p .skills) i 0 ≡ resourceAt b i .skills
 
--- a diary and those of some companions as a group; not right where a companion is not on the board
-pub record Grouping (b : Board) (own : ResourceTimeline) (companions : List ℕ) (usage : ℕ) (g : Grouped) : Type 0 where
-  pub right : g .right ≡ every (onBoard b) companions
-  pub few : g .group .len ≤ 5
-  pub shares : g .right ≡ true → sharesTo (g .group .timelines) (g .group .units) (g .group .len) ≡ record { timeline = own; units = usage } ∷ map (oneUnit b) companions
-  pub wanted : g .right ≡ true → Wanted (g .group .timelines) (g .group .units) (g .group .len)
+-- the places of a resource and its companions; not right where a companion is not on the board
+pub record Seated (b : Board) (own : ℕ) (companions : List ℕ) (count : ℕ) (m : Members) : Type 0 where
+  pub long : length companions ≡ 4
+  pub right : m .right ≡ every (onBoard b) (take count companions)
+  pub first : getD (m .places) 0 0 ≡ own
+  pub there : (k : ℕ) → k < 5 → getD (m .places) k 0 < b .len
+  pub named : m .right ≡ true → (k : ℕ) → k < count → lookup b (getD companions k 0) ≡ at (getD (m .places) (k + 1) 0)

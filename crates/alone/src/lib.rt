@@ -6,29 +6,32 @@ use activity::Timed;
 use asks::core::Start;
 use board::Board;
 use board::Resource;
-use timeline::ResourceTimeline;
 use together::Group;
 ghost use mathlib.Core.Path.{_≡_};
-ghost use mathlib.Core.Bool.{true};
+ghost use mathlib.Core.Bool.{true, cond};
 ghost use mathlib.Core.List.{[], _∷_};
-ghost use Prim.Native.Nat.{ℕ, _^_, _≤_, _<_};
-ghost use lib.ListN.{getD, take};
+ghost use Prim.Native.Nat.{ℕ, _+_, _^_, _≤_, _<_};
+ghost use lib.ListN.{getD, replicate};
 ghost use Rattle.asks.specs.Steps.{startOf};
-ghost use Rattle.timeline.specs.Valid as timeline;
 ghost use Rattle.activity.specs.Check.{activityRefusal};
-ghost use Rattle.board.specs.Resources.{resourceAt};
 ghost use Rattle.activity.specs.Durations.{durationOn};
 ghost use Rattle.activity.specs.Lawful.{Lawful};
 ghost use Rattle.board.specs.Setups.{setupOn};
 ghost use Rattle.board.specs.Valid.{resourceRight, valid};
-ghost use Rattle.scheduler.specs.Alone.{spanOf};
-ghost use Rattle.alone.specs.Plans.{startWith, Known, Planned, Grouping};
+ghost use Rattle.calendar.specs.Search.{nothing};
+ghost use Rattle.board.specs.declared.Board as declared;
+ghost use Rattle.scheduler.specs.Alone.{spanOf, earliestOf};
+ghost use Rattle.scheduler.specs.Shares.{sharesTo, Wanted};
+ghost use Rattle.alone.specs.Plans.{Known, Planned, Seated};
 
 // Span, process time and arrival of each resource on the board, by its place: they do not change from round to round.
 pub struct Plan {
     pub spans: [u64; 16],
     pub processes: [u64; 16],
     pub arrivals: [u64; 16],
+    pub numbers: [u8; 16],
+    pub kinds: [u8; 16],
+    pub skills: [u64; 16],
 }
 
 // Span and process time of a resource alone.
@@ -62,6 +65,9 @@ pub fn plan_of(b: Board, a: Activity, ready: u64) -> Plan
     let mut spans: [u64; 16] = [0; 16];
     let mut processes: [u64; 16] = [0; 16];
     let mut arrivals: [u64; 16] = [0; 16];
+    let mut numbers: [u8; 16] = [0; 16];
+    let mut kinds: [u8; 16] = [0; 16];
+    let mut skills: [u64; 16] = [0; 16];
     let mut i: usize = 0;
     while i < len {
         let r = b.resources[i];
@@ -69,81 +75,81 @@ pub fn plan_of(b: Board, a: Activity, ready: u64) -> Plan
         spans[i] = x.span;
         processes[i] = x.process;
         arrivals[i] = ready + board::core::transport_between(&transport, a.origins, r.number);
+        numbers[i] = r.number;
+        kinds[i] = r.kind;
+        skills[i] = r.skills;
         i += 1;
     }
     Plan {
         spans: spans,
         processes: processes,
         arrivals: arrivals,
+        numbers: numbers,
+        kinds: kinds,
+        skills: skills,
     }
 }
 
-// A resource and its companions, where all of these are on the board.
-pub struct Grouped {
+// The places of a resource and its companions; its own place stands in the cells past them, and where one is not on the board.
+pub struct Members {
     pub right: bool,
-    pub group: Group,
+    pub places: [usize; 5],
 }
 
-// A diary with the usage, and those of the first `count` companions, one unit each.
-fn group_of(
-    b: Board,
-    own: ResourceTimeline,
-    companions: [u8; 4],
-    count: usize,
-    usage: u32,
-    places: [usize; 16],
-) -> Grouped
-    requires { ⌜ (valid b ≡ true) × Known b places × (timeline.valid own ≡ true) × (1 ≤ usage) ⌝ }
+pub fn members_of(own: usize, companions: [u8; 4], count: usize, places: [usize; 16]) -> Members
     requires { ⌜ (count ≤ 4) × ((k : ℕ) → k < count → getD companions k 0 ≤ 15) ⌝ }
-    ensures { λ r. ⌜ Grouping b own (take count companions) usage r ⌝ }
+    ensures { λ r. ⌜ ((b : declared.Board) → valid b ≡ true → Known b places → own < b .len → Seated b own companions count r) ⌝ }
 {
-    let mut g = Group {
-        timelines: [own; 5],
-        units: [1; 5],
-        len: count + 1,
-    };
-    g.units[0] = usage;
+    let mut members: [usize; 5] = [own; 5];
+    let mut right = true;
     let mut i: usize = 0;
     while i < count {
         let number = companions[i] as usize;
-        let at = places[number];
-        if at >= 16 {
-            return Grouped {
-                right: false,
-                group: g,
-            };
+        let place = places[number];
+        if place < 16 {
+            members[i + 1] = place;
+        } else {
+            right = false;
         }
-        let other = b.resources[at];
-        let t = other.timeline;
-        g.timelines[i + 1] = t;
         i += 1;
     }
-    Grouped {
-        right: true,
-        group: g,
+    Members {
+        right: right,
+        places: members,
     }
 }
 
-// The least start of the resource at place p where its companions also fit; nothing where one of them is not on the board.
-pub fn with_companions(
-    b: Board,
-    p: usize,
+// A resource with the usage, and up to four companions, one unit each.
+pub fn group_of(
+    own: Resource,
+    second: Resource,
+    third: Resource,
+    fourth: Resource,
+    fifth: Resource,
     usage: u32,
-    places: [usize; 16],
-    resumable: bool,
-    span: u64,
-    from: u64,
-) -> Start
-    requires { ⌜ (valid b ≡ true) × Known b places × (p < b .len) × (1 ≤ usage) × (span ≤ 2 ^ 53) × (from ≤ 2 ^ 43) ⌝ }
-    ensures { λ r. ⌜ startOf r ≡ startWith b (resourceAt b p) usage resumable span from ⌝ }
+) -> Group
+    requires { ⌜ own .count ≤ 4 ⌝ }
+    ensures { λ r. ⌜ r ≡ record { timelines = own .timeline ∷ second .timeline ∷ third .timeline ∷ fourth .timeline ∷ fifth .timeline ∷ []; units = usage ∷ replicate 4 1; len = own .count + 1 } ⌝ }
 {
-    let r = b.resources[p];
-    let own = r.timeline;
-    let companions = r.companions;
-    let g = group_of(b, own, companions, r.count, usage, places);
-    if !g.right {
+    let first = own.timeline;
+    let a = second.timeline;
+    let b = third.timeline;
+    let c = fourth.timeline;
+    let d = fifth.timeline;
+    Group {
+        timelines: [first, a, b, c, d],
+        units: [usage, 1, 1, 1, 1],
+        len: own.count + 1,
+    }
+}
+
+// The least start of a resource where its companions also fit; nothing where one of them is not on the board.
+pub fn with_companions(g: Group, right: bool, resumable: bool, span: u64, from: u64) -> Start
+    requires { ⌜ (right ≡ true → (g .len ≤ 5) × Wanted (g .timelines) (g .units) (g .len)) × (span ≤ 2 ^ 53) × (from ≤ 2 ^ 43) ⌝ }
+    ensures { λ r. ⌜ startOf r ≡ cond right (earliestOf resumable span (sharesTo (g .timelines) (g .units) (g .len)) from) nothing ⌝ }
+{
+    if !right {
         return Start::Nothing;
     }
-    let group = g.group;
-    together::earliest_start(group, resumable, span, from)
+    together::earliest_start(g, resumable, span, from)
 }

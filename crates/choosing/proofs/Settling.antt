@@ -16,13 +16,13 @@ use Rattle.board.specs.Valid as board
 use Rattle.scheduler.specs.declared.Hold.{Hold}
 use Rattle.scheduler.specs.Choosing as scheduler
 use Rattle.scheduler.specs.Holds.{noHold, heldTo, OnPlaces}
+use Rattle.scheduler.specs.Arrays.{each-at}
 use Rattle.scheduler.specs.Lists.{Each, each-end, each-on}
 use Rattle.alone.specs.declared.Plan.{Plan}
 use Rattle.alone.specs.Plans.{Planned}
 use Rattle.choosing.specs.declared.Holding.{Holding}
 use Rattle.choosing.specs.Named.{latestStart}
 use Rattle.choosing.specs.Rounds.{roundBy, roundOf, Lasting}
-use Rattle.choosing.proofs.Cells.{each-at}
 use Rattle.choosing.proofs.Behind.{latest-is}
 use Rattle.choosing.proofs.Answers.{answers-to}
 
@@ -86,7 +86,7 @@ on-places b hs n m a = record { stands = λ k l. one k l .stands; some = λ k l.
     one : (k : ℕ) → k < n → Lasting b (getD hs k noHold)
     one k l =
         let e : length (take n hs) ≡ n = length-take-le n hs m in
-        subst (Lasting b) (getD-take n hs k noHold l) (each-at (Lasting b) (take n hs) k noHold (omega arith) a)
+        subst (Lasting b) (getD-take n hs k noHold l) (each-at (Lasting b) noHold (take n hs) a k (omega arith))
 
 pub none-on : (b : Board) (hs : List Hold) (n : ℕ) → n ≡ 0 → OnPlaces b hs n
 none-on b hs n e = record { stands = λ k l. absurd (omega arith); some = λ k l. absurd (omega arith) }

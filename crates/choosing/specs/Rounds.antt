@@ -1,34 +1,28 @@
 -- A round as the code goes through it: by the plan, which has what does not change from round to round.
-use Prim.Native.Nat.{ℕ, zero, suc, _^_, _≤_, _<_, max}
+use Prim.Native.Nat.{ℕ, zero, suc, _^_, _≤_, _<_}
 use mathlib.Core.Path.{_≡_}
 use mathlib.Core.Bool.{Bool, cond}
 use mathlib.Core.List.{List, [], _∷_, _++_}
-use lib.ListN.{getD}
+use lib.ListN.{getD, take}
 use Rattle.activity.specs.declared.ResourceRequirement.{ResourceRequirement}
 use Rattle.activity.specs.declared.Activity.{Activity}
-use Rattle.activity.specs.Serving.{serves}
-use Rattle.activity.specs.Check.{activityRefusal}
 use Rattle.board.specs.declared.Board.{Board}
 use Rattle.board.specs.Resources.{resourceAt}
 use Rattle.scheduler.specs.declared.Hold.{Hold}
 use Rattle.scheduler.specs.Choosing as scheduler
 use Rattle.scheduler.specs.Holds.{heldTo}
+use Rattle.scheduler.specs.Lists.{Each}
 use Rattle.alone.specs.declared.Plan.{Plan}
-use Rattle.alone.specs.Plans.{startWith, Planned}
+use Rattle.answering.specs.Tables.{foundAt, requirementAt}
 use Rattle.choosing.specs.declared.rank.Candidate.{Candidate}
+use Rattle.choosing.specs.declared.rank.Ranked.{Ranked}
+use Rattle.choosing.specs.Named.{rankedOf}
 use Rattle.choosing.specs.declared.Holding.{Holding}
 use Rattle.choosing.specs.declared.Choice.{Choice}
 
--- the plan of an order that is not refused, at some ready
-abbrev pub PlannedFor : Board → Activity → Plan → Type 0
-PlannedFor b a p = (ready : ℕ) × (activityRefusal a ready ≡ 0) × Planned b a ready p
-
--- what the resource at place i answers to a requirement at t
+-- what it answers
 unfoldable pub answerAt : Board → ResourceRequirement → Plan → Bool → ℕ → ℕ → List scheduler.Candidate
-answerAt b q p resumable t i =
-    cond (serves q (resourceAt b i .number) (resourceAt b i .kind) (resourceAt b i .skills))
-    (scheduler.answer (getD (p .processes) i 0) (resourceAt b i) (startWith b (resourceAt b i) (q .usage) resumable (getD (p .spans) i 0) (max t (getD (p .arrivals) i 0))))
-    []
+answerAt b q p resumable t i = scheduler.answer (getD (p .processes) i 0) (resourceAt b i) (foundAt b q p resumable t i)
 
 -- and the first n places
 unfoldable pub answersTo : Board → ResourceRequirement → Plan → Bool → ℕ → ℕ → List scheduler.Candidate
@@ -44,6 +38,11 @@ roundBy b p resumable t (q ∷ qs) = scheduler.hold q (answersTo b q p resumable
 pub record Fair (b : Board) (c : Candidate) : Type 0 where
   pub stands : c .place < b .len
   pub soon : c .start ≤ 2 ^ 43
+
+-- the candidates for requirement j from t on
+pub record SortedFor (b : Board) (a : Activity) (p : Plan) (t j : ℕ) (k : Ranked) : Type 0 where
+  pub so : rankedOf b k ≡ scheduler.sort (answersTo b (requirementAt a j) p (a .resumable) t (b .len))
+  pub fair : Each (Fair b) (take (k .count) (k .candidates))
 
 -- so does one held, and at least a unit is wanted of it
 pub record Lasting (b : Board) (h : Hold) : Type 0 where

@@ -1,9 +1,8 @@
 // Choosing: the instant at which every requirement has enough resources that can start then, and those held (the first half of
 // `place_activity` in scheduler/simple.rs; 01, 'Choosing').
 use activity::Activity;
-use activity::ResourceRequirement;
 use alone::Plan;
-use asks::core::Start;
+use answering::Table;
 use board::Board;
 use scheduler::Hold;
 
@@ -19,12 +18,13 @@ ghost use lib.ListN.{take};
 ghost use Rattle.activity.specs.declared.Activity as ordered;
 ghost use Rattle.activity.specs.Check.{requirementsOf, activityRefusal};
 ghost use Rattle.board.specs.Valid.{valid};
-ghost use Rattle.scheduler.specs.Choosing.{sort, choosing};
+ghost use Rattle.scheduler.specs.Choosing.{choosing};
 ghost use Rattle.scheduler.specs.Holds.{OnPlaces};
 ghost use Rattle.scheduler.specs.Lists.{Each};
 ghost use Rattle.alone.specs.Plans.{Known};
-ghost use Rattle.choosing.specs.Named.{rankedOf, holdOf, latestStart};
-ghost use Rattle.choosing.specs.Rounds.{PlannedFor, answersTo, roundBy, Fair, Lasting, roundOf, choiceOf};
+ghost use Rattle.choosing.specs.Named.{holdOf, latestStart};
+ghost use Rattle.answering.specs.Tables.{PlannedFor, Answered};
+ghost use Rattle.choosing.specs.Rounds.{SortedFor, roundBy, Lasting, roundOf, choiceOf};
 
 // The first `count` are held, where there are enough.
 pub struct Holding {
@@ -41,44 +41,25 @@ pub struct Choice {
     pub count: usize,
 }
 
-// The serving resources that have a start at t or later, sorted. The board goes on only for one that has companions.
-fn candidates(
-    b: Board,
-    q: ResourceRequirement,
-    p: Plan,
-    places: [usize; 16],
-    resumable: bool,
-    t: u64,
-) -> Ranked
-    requires { ⌜ (valid b ≡ true) × Known b places × ((a : ordered.Activity) × PlannedFor b a p) × (1 ≤ q .usage) × (t ≤ 2 ^ 43) ⌝ }
-    ensures { λ r. ⌜ (r .count ≤ 16) × (rankedOf b r ≡ sort (answersTo b q p resumable t (b .len))) × Each (Fair b) (take (r .count) (r .candidates)) ⌝ }
+// The candidates for requirement j, sorted.
+fn candidates(b: Board, p: Plan, table: Table, j: usize) -> Ranked
+    requires { ⌜ (valid b ≡ true) × (j < 4) ⌝ }
+    ensures { λ r. ⌜ (r .count ≤ 16) × ((a : ordered.Activity) → PlannedFor b a p → Answered b a p table → j < a .len → SortedFor b a p (table .instant) j r) ⌝ }
 {
     let len = b.len;
     let mut k = rank::empty();
     let mut i: usize = 0;
     while i < len {
-        let r = b.resources[i];
-        if activity::core::serves(q, r.number, r.kind, r.skills) {
-            let from = rank::later(t, p.arrivals[i]);
-            let span = p.spans[i];
-            let s = if r.count == 0 {
-                together::start_on(r.timeline, resumable, span, q.usage, from)
-            } else {
-                alone::with_companions(b, i, q.usage, places, resumable, span, from)
-            };
-            match s {
-                Start::At(start) => {
-                    k = rank::insert(
-                        k,
-                        Candidate {
-                            start: start,
-                            process: p.processes[i],
-                            place: i,
-                        },
-                    );
-                }
-                Start::Nothing => {}
-            }
+        let start = table.starts[16 * j + i];
+        if start < 9223372036854775808 {
+            k = rank::insert(
+                k,
+                Candidate {
+                    start: start,
+                    process: p.processes[i],
+                    place: i,
+                },
+            );
         }
         i += 1;
     }
@@ -135,23 +116,23 @@ fn greatest_start(held: [Hold; 8], count: usize) -> u64
     let mut i: usize = 0;
     while i < count {
         let h = held[i];
-        most = rank::later(most, h.start);
+        most = answering::later(most, h.start);
         i += 1;
     }
     most
 }
 
-// One round at t: those held, requirement by requirement, or too few for some requirement.
-fn round(b: Board, a: Activity, p: Plan, places: [usize; 16], t: u64) -> Holding
-    requires { ⌜ (valid b ≡ true) × Known b places × PlannedFor b a p × (t ≤ 2 ^ 43) ⌝ }
-    ensures { λ r. ⌜ (roundOf b r ≡ roundBy b p (a .resumable) t (requirementsOf a)) × (r .count ≤ 8) × Each (Lasting b) (take (r .count) (r .held)) ⌝ }
+// One round: those held, requirement by requirement, or too few for some requirement.
+fn round(b: Board, a: Activity, p: Plan, table: Table) -> Holding
+    requires { ⌜ (valid b ≡ true) × PlannedFor b a p × Answered b a p table ⌝ }
+    ensures { λ r. ⌜ (roundOf b r ≡ roundBy b p (a .resumable) (table .instant) (requirementsOf a)) × (r .count ≤ 8) × Each (Lasting b) (take (r .count) (r .held)) ⌝ }
 {
     let n = a.len;
     let mut h = nothing_held(true);
     let mut i: usize = 0;
     while i < n {
         let q = a.requirements[i];
-        let k = candidates(b, q, p, places, a.resumable, t);
+        let k = candidates(b, p, table, i);
         let quantity = q.quantity as usize;
         if k.count < quantity {
             return nothing_held(false);
@@ -186,10 +167,12 @@ pub fn choose(b: Board, a: Activity, ready: u64, places: [usize; 16]) -> Choice
     ensures { λ r. ⌜ r .instant ≤ 2 ^ 43 ⌝ }
 {
     let p = alone::plan_of(b, a, ready);
+    let mut table = answering::nothing_asked();
     let mut t = ready;
     let mut i: u64 = 0;
     while i < 10000 {
-        let h = round(b, a, p, places, t);
+        table = answering::answered(b, a, p, places, t, table);
+        let h = round(b, a, p, table);
         if !h.enough {
             return no_choice();
         }

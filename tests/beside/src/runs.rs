@@ -25,6 +25,8 @@ pub struct Plan {
     pub variants: u64,
     /// One stream in so many is also spoilt: records at and over the limits among the good ones.
     pub spoilt: u64,
+    /// One stream in so many goes to the readings of 01.
+    pub readings: u64,
     /// One board in so many goes to `offer` too, which takes a process for each.
     pub boards: u64,
 }
@@ -36,10 +38,12 @@ pub const FULL: Plan = Plan {
     board_asks: 5_000_000,
     variants: 4,
     spoilt: 4,
+    readings: 1,
     boards: 4,
 };
-/// For `--offer`: every board goes to `offer`.
-pub const OFFER: Plan = Plan { placings: 2_700_000, boards: 1, variants: 64, spoilt: 16, ..FULL };
+/// For `--offer`: every board goes to `offer`, one in 32 to the readings too.
+pub const OFFER: Plan =
+    Plan { placings: 2_700_000, boards: 1, readings: 32, variants: 64, spoilt: 16, ..FULL };
 pub const SHORT: Plan = Plan {
     calendar_asks: 120_000,
     asks: 120_000,
@@ -47,6 +51,7 @@ pub const SHORT: Plan = Plan {
     board_asks: 100_000,
     variants: 8,
     spoilt: 4,
+    readings: 1,
     boards: 16,
 };
 
@@ -161,7 +166,9 @@ impl Run<'_> {
         let records = make(&mut r, self.known, size, cases);
         let bytes = encode(&records);
         self.counts.stream(&records, &REFERENCE.replies(&bytes, self.known).0);
-        self.readings(&bytes, size);
+        if n % self.plan.readings == 0 {
+            self.readings(&bytes, size);
+        }
         if n % self.plan.variants == 0 {
             self.variants(&bytes);
         }

@@ -1,90 +1,56 @@
 -- `choosing::candidates` meets its contract. The loop: the candidates of the places so far, sorted (Answers).
-use borrow.Author.Needs.{needs}
-use mathlib.Core.Path.{_≡_, refl, sym, _∙_}
-use mathlib.Core.Logic.{⊎-elim}
-use Prim.Native.Nat.{_-_, _≤_, _<_}
-use native.Mathlib.Omega.{arith}
-use Rattle.board.proofs.Facts.{rules}
-use Rattle.board.proofs.Meaning.{resource-of}
-use Rattle.choosing.proofs.Answers.{Sorted, sorted-start, turn-idle, turn-none, turn-on, asked-alone, asked-with, span-range, arrival-range}
 use Rattle.choosing.proofs.candidates.Statement.{statement}
 use Rattle.choosing.proofs.candidates.Tie as tie
+use borrow.Author.Needs.{needs}
+use mathlib.Core.Path.{_≡_, refl}
+use mathlib.Core.Bool.{true}
+use mathlib.Core.Logic.{⊎-elim}
+use Prim.Native.Nat.{_+_, _-_, _*_, _≤_, _<_}
+use native.Mathlib.Omega.{arith}
+use lib.ListN.{getD}
+use Rattle.activity.specs.declared.Activity.{Activity}
+use Rattle.board.specs.declared.Board.{Board}
+use Rattle.board.specs.Valid.{valid}
+use Rattle.board.proofs.Facts.{rules}
+use Rattle.answering.specs.Tables.{PlannedFor, requirementAt, Answered}
+use Rattle.choosing.proofs.Answers.{Sorted, sorted-start, turn-none, turn-on}
 
 abbrev Inv-loop : tie.InvT-loop
-Inv-loop q places resumable t b p len k₀ i₀ k i = (len ≡ b .len) × (len ≤ 16) × (i ≤ len) × Sorted b q p resumable t i k
+Inv-loop j p table len k₀ i₀ k i =
+    (len ≤ 16) × (i ≤ len) × (k .count ≤ i)
+    × ((b : Board) → len ≡ b .len → valid b ≡ true → (a : Activity) → PlannedFor b a p → Answered b a p table → j < a .len → Sorted b (requirementAt a j) p (a .resumable) (table .instant) i k)
 
 abbrev μ-loop : tie.MeasureT-loop
-μ-loop q places resumable t b p len k₀ i₀ k i = len - i
+μ-loop j p table len k₀ i₀ k i = len - i
 
 empty-requires : tie.Need-empty-requires Inv-loop μ-loop
 empty-requires c κs = search needs
 
 loop-holds : tie.Need-loop-holds Inv-loop μ-loop
-loop-holds c = (refl, rules _ (c .before .pre .0) .few, omega arith, sorted-start _ _ _ _ _ _ (c .empty .ensures))
+loop-holds c =
+    let e = c .empty .ensures in
+    (rules _ (c .before .pre .0) .few, omega arith, omega arith, λ b n v a w o l. sorted-start b (requirementAt a (c .before .args .j)) (c .before .args .t2) (a .resumable) (c .before .args .t3 .instant) (c .empty .result) e)
 
-mul-r : tie.Need-mul-r Inv-loop μ-loop
-mul-r c = search needs
+mul-start : tie.Need-mul-start Inv-loop μ-loop
+mul-start c = search needs
 
-element-copy-out-r : tie.Need-element-copy-out-r Inv-loop μ-loop
-element-copy-out-r c = search needs
+add-start : tie.Need-add-start Inv-loop μ-loop
+add-start c = search needs
 
-serves-requires : tie.Need-serves-requires Inv-loop μ-loop
-serves-requires c κs =
-    let a = c .before .before .before .before .args in
-    let i = c .before .before .loop .i in
-    let v = c .before .before .loop .inv in
-    let l : i < a .t1 .len = omega (arith, c .before .loop-test .taken, v .0) in
-    omega (arith, resource-of (a .t1) (c .before .before .before .before .pre .0) i l .number)
+mul-start-2 : tie.Need-mul-start-2 Inv-loop μ-loop
+mul-start-2 c = search needs
 
-mul-later : tie.Need-mul-later Inv-loop μ-loop
-mul-later c = search needs
+element-copy-out-start : tie.Need-element-copy-out-start Inv-loop μ-loop
+element-copy-out-start c = search needs
 
-element-copy-out-later : tie.Need-element-copy-out-later Inv-loop μ-loop
-element-copy-out-later c = search needs
+mul-t18 : tie.Need-mul-t18 Inv-loop μ-loop
+mul-t18 c = search needs
 
-later-requires : tie.Need-later-requires Inv-loop μ-loop
-later-requires c κs = search needs
-
-mul-span : tie.Need-mul-span Inv-loop μ-loop
-mul-span c = search needs
-
-element-copy-out-span : tie.Need-element-copy-out-span Inv-loop μ-loop
-element-copy-out-span c = search needs
-
-start-on-requires : tie.Need-start-on-requires Inv-loop μ-loop
-start-on-requires c κs =
-    let d = c .before .before .before .before .before .before .before .before .before .before .before in
-    let i = c .before .before .before .before .before .before .before .before .before .loop .i in
-    let v = c .before .before .before .before .before .before .before .before .before .loop .inv in
-    let l : i < d .args .t1 .len = omega (arith, c .before .before .before .before .before .before .before .before .loop-test .taken, v .0) in
-    let e = c .before .before .before .later .ensures in
-    let w = d .pre .2 in
-    (resource-of (d .args .t1) (d .pre .0) i l .timeline, omega (arith, e, d .pre .4, arrival-range (d .args .t1) (d .pre .0) (w .0) (d .args .t3) (w .1) i l), span-range (d .args .t1) (d .pre .0) (w .0) (d .args .t3) (w .1) i l, omega (arith, d .pre .3))
-
-with-companions-requires : tie.Need-with-companions-requires Inv-loop μ-loop
-with-companions-requires c κs =
-    let d = c .before .before .before .before .before .before .before .before .before .before .before in
-    let i = c .before .before .before .before .before .before .before .before .before .loop .i in
-    let v = c .before .before .before .before .before .before .before .before .before .loop .inv in
-    let l : i < d .args .t1 .len = omega (arith, c .before .before .before .before .before .before .before .before .loop-test .taken, v .0) in
-    let e = c .before .before .before .later .ensures in
-    let w = d .pre .2 in
-    (d .pre .0, d .pre .1, l, d .pre .3, span-range (d .args .t1) (d .pre .0) (w .0) (d .args .t3) (w .1) i l, omega (arith, e, d .pre .4, arrival-range (d .args .t1) (d .pre .0) (w .0) (d .args .t3) (w .1) i l))
-
-enum-known-s : tie.Need-enum-known-s Inv-loop μ-loop
-enum-known-s c = search needs
-
-mul-t32 : tie.Need-mul-t32 Inv-loop μ-loop
-mul-t32 c = search needs
-
-element-copy-out-t35 : tie.Need-element-copy-out-t35 Inv-loop μ-loop
-element-copy-out-t35 c = search needs
+element-copy-out-t21 : tie.Need-element-copy-out-t21 Inv-loop μ-loop
+element-copy-out-t21 c = search needs
 
 insert-requires : tie.Need-insert-requires Inv-loop μ-loop
 insert-requires c κs = search needs
-
-enum-told : tie.Need-enum-told Inv-loop μ-loop
-enum-told c = search needs
 
 add-i : tie.Need-add-i Inv-loop μ-loop
 add-i c = search needs
@@ -94,25 +60,21 @@ loop-less c = search needs
 
 loop-again : tie.Need-loop-again Inv-loop μ-loop
 loop-again c =
-    let d = c .before .before .before .before .before .before in
-    let b = d .args .t1 in
-    let p = d .args .t3 in
-    let i = c .before .before .before .before .loop .i in
-    let v = c .before .before .before .before .loop .inv in
-    let l : i < b .len = omega (arith, c .before .before .before .loop-test .taken, v .0) in
-    let said = c .before .serves .ensures in (
+    let v = c .before .before .before .loop .inv in
+    let i = c .before .before .before .loop .i in
+    let d = c .before .before .before .before .before in
+    let l = c .before .before .loop-test .taken in
+    let k = c .before .before .before .loop .k in (
       v .0,
-      v .1,
       omega arith,
-      ⊎-elim
-          (λ w.
-          let f = ⊎-elim (λ u. rw (u .2) (asked-alone b (d .pre .0) (d .args .q) p (d .args .resumable) (d .args .t) i _ l (w .2 .ensures) _ (u .0 .taken) (u .1 .ensures))) (λ u. rw (u .2) (asked-with b (d .pre .0) (d .args .q) p (d .args .resumable) (d .args .t) i _ l (w .2 .ensures) _ (u .1 .ensures))) (w .5 .came) in
-          rw (w .11) (turn-on b (d .pre .0) (d .pre .2 .0) p (d .pre .2 .1) (d .args .q) (d .args .resumable) (d .args .t) i l _ (v .3) (sym said ∙ w .0 .taken) (w .5 .s) f (w .7 .given .0 .0) _ (w .7 .given .1) (d .pre .4) (w .10 .ensures .0) (w .10 .ensures .1)))
-          (⊎-elim
-          (λ w.
-          let f = ⊎-elim (λ u. rw (u .2) (asked-alone b (d .pre .0) (d .args .q) p (d .args .resumable) (d .args .t) i _ l (w .2 .ensures) _ (u .0 .taken) (u .1 .ensures))) (λ u. rw (u .2) (asked-with b (d .pre .0) (d .args .q) p (d .args .resumable) (d .args .t) i _ l (w .2 .ensures) _ (u .1 .ensures))) (w .5 .came) in
-          rw (w .8) (turn-none b (d .pre .0) (d .pre .2 .0) p (d .pre .2 .1) (d .args .q) (d .args .resumable) (d .args .t) i l _ (v .3) (sym said ∙ w .0 .taken) (w .5 .s) f (w .7 .given .1)))
-          (λ w. rw (w .1) (turn-idle b (d .args .q) p (d .args .resumable) (d .args .t) i _ (v .3) (sym said ∙ w .0 .left))))
+      ⊎-elim (λ u. rw (u .3) (omega (arith, u .2 .ensures .0, v .2))) (λ u. rw (u .1) (omega (arith, v .2))) (c .if1 .came),
+      λ b n h a w o m.
+          let here : i < b .len = omega (arith, l, n) in
+          let e = o .so (d .args .j) i m here in
+          let s = v .3 b n h a w o m in
+          ⊎-elim
+          (λ u. rw (u .3) (turn-on b h a (d .args .t2) w (requirementAt a (d .args .j)) (a .resumable) i here (d .args .t3 .instant) (o .soon) (getD (d .args .t3 .starts) (16 * d .args .j + i) 0) e k s _ (u .0 .taken) (u .2 .ensures .0) (u .2 .ensures .1)))
+          (λ u. rw (u .1) (turn-none b h a (d .args .t2) w (requirementAt a (d .args .j)) (a .resumable) i here (d .args .t3 .instant) (o .soon) (getD (d .args .t3 .starts) (16 * d .args .j + i) 0) e k s (u .0 .left)))
           (c .if1 .came),
     )
 
@@ -120,9 +82,9 @@ returns : tie.Need-returns Inv-loop μ-loop
 returns c =
     let v = c .before .loop .inv in
     let l = c .loop-test .left in
-    let z : c .before .loop .i ≡ c .before .before .before .args .t1 .len = omega (arith, v .0, v .2) in
-    let s = rw z at (v .3) in
-    (omega (arith, v .0, v .1, s .few), s .so, s .fair)
+    let d = c .before .before .before in
+    let z : c .before .loop .i ≡ d .args .b .len = omega (arith, v .1) in
+    (omega (arith, v .0, v .1, v .2), λ a w o k. let s = rw z at (v .3 (d .args .b) refl (d .pre .0) a w o k) in record { so = s .so; fair = s .fair })
 
 pub candidates-spec : {M : Type 1} → statement M
 candidates-spec =
@@ -132,21 +94,13 @@ candidates-spec =
     μ-loop
     empty-requires
     loop-holds
-    mul-r
-    element-copy-out-r
-    serves-requires
-    mul-later
-    element-copy-out-later
-    later-requires
-    mul-span
-    element-copy-out-span
-    start-on-requires
-    with-companions-requires
-    enum-known-s
-    mul-t32
-    element-copy-out-t35
+    mul-start
+    add-start
+    mul-start-2
+    element-copy-out-start
+    mul-t18
+    element-copy-out-t21
     insert-requires
-    enum-told
     add-i
     loop-less
     loop-again

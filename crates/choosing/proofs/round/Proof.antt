@@ -5,16 +5,17 @@ use Prim.Native.Nat.{_-_, _≤_}
 use native.Mathlib.Omega.{arith}
 use lib.ListN.{length, length-map}
 use Rattle.activity.specs.Check.{requirementsOf}
-use Rattle.choosing.proofs.Going.{Going, going-start, going-short, going-room, going-on, going-end, nothing-lasting, used-some}
+use Rattle.answering.proofs.Finding.{used-some}
+use Rattle.choosing.proofs.Going.{Going, going-start, going-short, going-room, going-on, going-end, nothing-lasting}
 use Rattle.activity.proofs.Judging.{accepted}
 use Rattle.choosing.proofs.round.Statement.{statement}
 use Rattle.choosing.proofs.round.Tie as tie
 
 abbrev Inv-loop : tie.InvT-loop
-Inv-loop b p places t a n h₀ i₀ h i = (n ≡ a .len) × (n ≤ 4) × (i ≤ n) × (length (a .requirements) ≡ 4) × Going b p (a .resumable) t (requirementsOf a) i h
+Inv-loop b p table a n h₀ i₀ h i = (n ≡ a .len) × (n ≤ 4) × (i ≤ n) × (length (a .requirements) ≡ 4) × Going b p (a .resumable) (table .instant) (requirementsOf a) i h
 
 abbrev μ-loop : tie.MeasureT-loop
-μ-loop b p places t a n h₀ i₀ h i = n - i
+μ-loop b p table a n h₀ i₀ h i = n - i
 
 nothing-held-requires : tie.Need-nothing-held-requires Inv-loop μ-loop
 nothing-held-requires c κs = search needs
@@ -22,7 +23,7 @@ nothing-held-requires c κs = search needs
 loop-holds : tie.Need-loop-holds Inv-loop μ-loop
 loop-holds c =
     let d = c .before in
-    let k = accepted (d .args .t2) (d .pre .2 .0) (d .pre .2 .1) in
+    let k = accepted (d .args .t2) (d .pre .1 .0) (d .pre .1 .1) in
     (refl, k .few, omega arith, simp length-map at (d .good .1 .0 .1 .1 .1 .1 .1 .1 .1 .1 .0 .1 .0 .1), going-start _ _ _ _ _ _ (k .total-range) (c .nothing-held .ensures .0) (c .nothing-held .ensures .1))
 
 mul-q : tie.Need-mul-q Inv-loop μ-loop
@@ -33,10 +34,8 @@ element-copy-out-q c = search needs
 
 candidates-requires : tie.Need-candidates-requires Inv-loop μ-loop
 candidates-requires c κs =
-    let d = c .before .before .before .before in
     let v = c .before .before .loop .inv in
-    let l = c .before .loop-test .taken in
-    (d .pre .0, d .pre .1, (d .args .t2, d .pre .2), used-some (d .args .t2) (d .pre .2 .0) (c .before .before .loop .i) (d .pre .2 .1) (omega (arith, v .0, v .1, v .3)) l, d .pre .3)
+    (c .before .before .before .before .pre .0, omega (arith, c .before .loop-test .taken, v .1))
 
 cast-quantity : tie.Need-cast-quantity Inv-loop μ-loop
 cast-quantity c = search needs
@@ -52,10 +51,11 @@ returns c =
     let k = c .before .before .before .before .candidates in
     let m : a .len ≤ length (a .requirements) = omega (arith, v .0, v .1, v .3) in
     let n : length (k .result .candidates) ≡ 16 = simp length-map at (k .ok .1 .1 .0 .1 .0 .1) in
+    let o = k .ensures .1 a (d .pre .1) (d .pre .2) (c .before .before .before .before .before .before .loop-test .taken) in
     let r = c .nothing-held2 .ensures in (
-      going-short (d .args .b) (d .args .p) (a .resumable) (d .args .t) (a .requirements) (a .len) (c .before .before .before .before .before .before .before .loop .i) (c .before .before .before .before .before .before .loop-test .taken) m (c .before .before .before .before .before .before .before .loop .h) (v .4) (k .result) (omega (arith, n, k .ensures .0)) (k .ensures .1) (c .nothing-held2 .result) (omega (arith, c .before .if1 .taken)) (r .0),
+      going-short (d .args .b) (d .args .p) (a .resumable) (d .args .table .instant) (a .requirements) (a .len) (c .before .before .before .before .before .before .before .loop .i) (c .before .before .before .before .before .before .loop-test .taken) m (c .before .before .before .before .before .before .before .loop .h) (v .4) (k .result) (omega (arith, n, k .ensures .0)) (o .so) (c .nothing-held2 .result) (omega (arith, c .before .if1 .taken)) (r .0),
       omega (arith, r .1),
-      nothing-lasting (d .args .b) (d .args .p) (a .resumable) (d .args .t) (c .nothing-held2 .result) (r .1),
+      nothing-lasting (d .args .b) (d .args .p) (a .resumable) (d .args .table .instant) (c .nothing-held2 .result) (r .1),
     )
 
 hold-first-requires : tie.Need-hold-first-requires Inv-loop μ-loop
@@ -66,7 +66,8 @@ hold-first-requires c κs =
     let k = c .before .before .before .candidates in
     let m : a .len ≤ length (a .requirements) = omega (arith, v .0, v .1, v .3) in
     let n : length (k .result .candidates) ≡ 16 = simp length-map at (k .ok .1 .1 .0 .1 .0 .1) in
-    (omega (arith, c .if1 .left), k .ensures .0, going-room (d .args .b) (d .args .p) (a .resumable) (d .args .t) (a .requirements) (a .len) (c .before .before .before .before .before .before .loop .i) (c .before .before .before .before .before .loop-test .taken) m (c .before .before .before .before .before .before .loop .h) (v .4) (k .result) (omega (arith, n, k .ensures .0)) (k .ensures .1))
+    let o = k .ensures .1 a (d .pre .1) (d .pre .2) (c .before .before .before .before .before .loop-test .taken) in
+    (omega (arith, c .if1 .left), k .ensures .0, going-room (d .args .b) (d .args .p) (a .resumable) (d .args .table .instant) (a .requirements) (a .len) (c .before .before .before .before .before .before .loop .i) (c .before .before .before .before .before .loop-test .taken) m (c .before .before .before .before .before .before .loop .h) (v .4) (k .result) (omega (arith, n, k .ensures .0)) (o .so))
 
 add-i : tie.Need-add-i Inv-loop μ-loop
 add-i c = search needs
@@ -83,14 +84,15 @@ loop-again c =
     let l = c .before .before .before .before .before .before .loop-test .taken in
     let m : a .len ≤ length (a .requirements) = omega (arith, v .0, v .1, v .3) in
     let n : length (k .result .candidates) ≡ 16 = simp length-map at (k .ok .1 .1 .0 .1 .0 .1) in
+    let o = k .ensures .1 a (d .pre .1) (d .pre .2) l in
     let r = c .hold-first .ensures in (
       v .0,
       v .1,
       omega arith,
       v .3,
-      going-on (d .args .b) (d .args .p) (a .resumable) (d .args .t) (a .requirements) (a .len) (c .before .before .before .before .before .before .before .loop .i) l m (c .before .before .before .before .before .before .before .loop .h) (v .4) (k .result) (omega (arith, n, k .ensures .0)) (k .ensures .1) (c .hold-first .result) (omega (arith, c .before .if1 .left))
-          (used-some a (d .pre .2 .0) (c .before .before .before .before .before .before .before .loop .i) (d .pre .2 .1) m l)
-          (k .ensures .2)
+      going-on (d .args .b) (d .args .p) (a .resumable) (d .args .table .instant) (a .requirements) (a .len) (c .before .before .before .before .before .before .before .loop .i) l m (c .before .before .before .before .before .before .before .loop .h) (v .4) (k .result) (omega (arith, n, k .ensures .0)) (o .so) (c .hold-first .result) (omega (arith, c .before .if1 .left))
+          (used-some a (d .pre .1 .0) (c .before .before .before .before .before .before .before .loop .i) (d .pre .1 .1) m l)
+          (o .fair)
           (r .0 .0)
           (r .0 .1)
           (r .1),
@@ -104,7 +106,7 @@ returns-2 c =
     let l = c .loop-test .left in
     let z : c .before .loop .i ≡ a .len = omega (arith, v .2) in
     let g = rw z at (v .4) in
-    let e = going-end (d .args .b) (d .args .p) (a .resumable) (d .args .t) (a .requirements) (a .len) (c .before .loop .h) (omega (arith, v .0, v .1, v .3)) g in
+    let e = going-end (d .args .b) (d .args .p) (a .resumable) (d .args .table .instant) (a .requirements) (a .len) (c .before .loop .h) (omega (arith, v .0, v .1, v .3)) g in
     (e .0, e .1, v .4 .lasting)
 
 pub round-spec : {M : Type 1} → statement M

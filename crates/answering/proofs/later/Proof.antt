@@ -1,7 +1,7 @@
--- `choosing::rank::later` meets its contract.
+-- `answering::later` meets its contract.
 use native.Mathlib.Omega.{arith}
-use Rattle.choosing.proofs.rank.later.Statement.{statement}
-use Rattle.choosing.proofs.rank.later.Tie as tie
+use Rattle.answering.proofs.later.Statement.{statement}
+use Rattle.answering.proofs.later.Tie as tie
 
 returns : tie.Need-returns
 returns c = omega arith

@@ -1,0 +1,134 @@
+-- What a resource finds for a requirement: in range, and the same from each instant up to its start.
+use mathlib.Core.Path.{_≡_, refl, sym, ap, subst}
+use mathlib.Core.Bool.{Bool, true, false, cond}
+use mathlib.Core.List.{List, [], _∷_}
+use Prim.Native.Nat.{ℕ, suc, _-_, _^_, _≤_, _<_, max}
+use native.Mathlib.Omega.{arith}
+use lib.ListN.{getD, length}
+use lib.Seq.{getD-take, length-take-le}
+use Rattle.calendar.specs.Search.{Found, nothing, at}
+use Rattle.calendar.specs.Meaning.{least-found}
+use Rattle.activity.specs.declared.ResourceRequirement.{ResourceRequirement}
+use Rattle.activity.specs.declared.Activity.{Activity}
+use Rattle.activity.specs.Serving.{serves}
+use Rattle.activity.specs.Check.{every, requirementsOf, activityRefusal}
+use Rattle.activity.proofs.Judging.{accepted}
+use Rattle.activity.proofs.Passing.{noRequirement}
+use Rattle.activity.proofs.Meaning.{duration-bounded}
+use Rattle.board.specs.declared.Resource.{Resource}
+use Rattle.board.specs.declared.Board.{Board}
+use Rattle.board.specs.Resources.{noResource, resourcesOf, resourceAt, onBoard}
+use Rattle.board.specs.Valid as board
+use Rattle.board.proofs.Meaning.{resource-of, greatest-small, setup-small}
+use Rattle.scheduler.specs.Alone.{Share, allStart, lastOf, earliestOf, companionsOf, withCompanions, durationAlone, spanOf, arrival}
+use Rattle.scheduler.specs.Arrays.{each-at}
+use Rattle.scheduler.specs.Together.{Sound}
+use Rattle.scheduler.specs.Latest.{last-small, together-answers, together-is}
+use Rattle.scheduler.specs.Ruled.{all-kept, all-there}
+use Rattle.scheduler.specs.Answering.{Kept, Answers}
+use Rattle.alone.specs.declared.Plan.{Plan}
+use Rattle.alone.specs.Plans.{startWith}
+use Rattle.answering.specs.Tables.{PlannedFor, foundAt, numberOf}
+
+-- the spans and arrivals of a plan are in range
+module _ (b : Board) (v : board.valid b ≡ true) (a : Activity) (p : Plan) (w : PlannedFor b a p) (i : ℕ) (l : i < b .len) where
+  pub span-range : getD (p .spans) i 0 ≤ 2 ^ 53
+  unfolding durationAlone spanOf
+  span-range =
+      let k = accepted a (w .0) (w .1) in
+      let r = resource-of b v i l in
+      let d = duration-bounded (a .duration) (a .timings) (resourceAt b i .number ∷ []) (k .lawful) (omega arith) in
+      omega (arith, w .2 .spans i l, d .process-range, d .teardown-range, setup-small (resourceAt b i .matrix) (resourceAt b i .last) (a .category) _ (r .matrix) (r .last) (k .category-range) (d .setup-range))
+
+  pub arrival-range : getD (p .arrivals) i 0 ≤ 2 ^ 43
+  unfolding arrival
+  arrival-range =
+      let k = accepted a (w .0) (w .1) in
+      let r = resource-of b v i l in
+      omega (arith, w .2 .arrivals i l, k .ready-range, greatest-small (onBoard b) b v (a .origins) (resourceAt b i .number) 16 (omega (arith, r .number)) (omega arith))
+
+  -- a resource and its companions, where these are on the board
+  companions-kept : (q : ResourceRequirement) → every (onBoard b) (companionsOf (resourceAt b i)) ≡ true → Sound (withCompanions b (resourceAt b i) (q .usage))
+  companions-kept q =
+      let n : length (resourcesOf b) ≡ b .len = length-take-le (b .len) (b .resources) (all-there b v) in
+      subst (Kept b a (w .0) q) (getD-take (b .len) (b .resources) i noResource l) (each-at (Kept b a (w .0) q) noResource (resourcesOf b) (all-kept b v a (w .0) q) i (omega arith))
+
+no-start : (s : ℕ) → nothing ≡ at s → ⊥
+no-start s q =
+    let z : _≡_ {A = ℕ} 0 1 = cc in
+    omega arith
+
+-- a start lies at the instant asked from, or by 2^42
+start-by : (b : Board) (r : Resource) (usage : ℕ) (resumable : Bool) (span from s : ℕ) → (every (onBoard b) (companionsOf r) ≡ true → Sound (withCompanions b r usage))
+    → startWith b r usage resumable span from ≡ at s → s ≤ max from (2 ^ 42)
+unfolding startWith earliestOf
+start-by b r usage resumable span from s k = go (every (onBoard b) (companionsOf r)) refl
+  where
+    xs : List Share
+    xs = withCompanions b r usage
+
+    go : (c : Bool) → every (onBoard b) (companionsOf r) ≡ c → cond c (earliestOf resumable span xs from) nothing ≡ at s → s ≤ max from (2 ^ 42)
+    go true e f = omega (arith, least-found (allStart resumable span xs) from (suc (lastOf xs - from)) s f .high, last-small xs (k e))
+    go false e f = absurd (no-start s f)
+
+-- of each requirement at least a unit is wanted
+pub used-some : (a : Activity) (ready i : ℕ) → activityRefusal a ready ≡ 0 → a .len ≤ length (a .requirements) → i < a .len → 1 ≤ getD (a .requirements) i noRequirement .usage
+used-some a ready i e m l =
+    let n : length (requirementsOf a) ≡ a .len = length-take-le (a .len) (a .requirements) m in
+    subst (λ (q : ResourceRequirement). 1 ≤ q .usage) (getD-take (a .len) (a .requirements) i noRequirement l) (accepted a ready e .used i (omega arith) .0)
+
+-- a number is the start, or none
+pub number-at : (f : Found) (x : ℕ) → x ≡ numberOf f → x < 2 ^ 63 → f ≡ at x
+unfolding numberOf
+number-at nothing x e l = absurd (omega arith)
+number-at (at s) x e l = ap at (sym e)
+
+pub number-none : (f : Found) → 2 ^ 63 ≤ numberOf f → ((s : ℕ) → f ≡ at s → s ≤ 2 ^ 43) → f ≡ nothing
+unfolding numberOf
+number-none nothing l h = refl
+number-none (at s) l h = absurd (omega (arith, h s refl))
+
+module _ (b : Board) (v : board.valid b ≡ true) (a : Activity) (p : Plan) (w : PlannedFor b a p) (q : ResourceRequirement) (resumable : Bool) (i : ℕ) (l : i < b .len) where
+  abbrev asked : ℕ → Found
+  asked t = startWith b (resourceAt b i) (q .usage) resumable (getD (p .spans) i 0) (max t (getD (p .arrivals) i 0))
+
+  -- a start lies by 2^43
+  pub found-range : (t s : ℕ) → t ≤ 2 ^ 43 → foundAt b q p resumable t i ≡ at s → s ≤ 2 ^ 43
+  unfolding foundAt
+  found-range t s m = go (serves q (resourceAt b i .number) (resourceAt b i .kind) (resourceAt b i .skills))
+    where
+      go : (c : Bool) → cond c (asked t) nothing ≡ at s → s ≤ 2 ^ 43
+      go true e = omega (arith, start-by b (resourceAt b i) (q .usage) resumable (getD (p .spans) i 0) (max t (getD (p .arrivals) i 0)) s (companions-kept b v a p w i l q) e, arrival-range b v a p w i l)
+      go false e = absurd (no-start s e)
+
+  -- from a later instant, up to the start, it is the same
+  pub found-later : (t u : ℕ) → t ≤ u → u ≤ numberOf (foundAt b q p resumable t i) → foundAt b q p resumable u i ≡ foundAt b q p resumable t i
+  unfolding foundAt startWith numberOf
+  found-later t u m = go (serves q (resourceAt b i .number) (resourceAt b i .kind) (resourceAt b i .skills))
+    where
+      xs : List Share
+      xs = withCompanions b (resourceAt b i) (q .usage)
+
+      arrives : ℕ
+      arrives = getD (p .arrivals) i 0
+
+      span : ℕ
+      span = getD (p .spans) i 0
+
+      found : ℕ → Found
+      found y = earliestOf resumable span xs (max y arrives)
+
+      same : Sound xs → (f : Found) → Answers (allStart resumable span xs) (max t arrives) f → u ≤ numberOf f → Answers (allStart resumable span xs) (max u arrives) f
+      same k nothing h n = λ y o. h y (omega arith)
+      same k (at s) h n = record { low = omega (arith, h .low); holds = h .holds; first = λ y o z. h .first y (omega arith) z }
+
+      with : (c : Bool) → every (onBoard b) (companionsOf (resourceAt b i)) ≡ c → u ≤ numberOf (cond c (found t) nothing) → cond c (found u) nothing ≡ cond c (found t) nothing
+      with true e n =
+          let k = companions-kept b v a p w i l q e in
+          sym (together-is resumable span xs (max u arrives) (found t) k (same k (found t) (together-answers resumable span xs (max t arrives) k) n))
+      with false e n = refl
+
+      go : (c : Bool) → u ≤ numberOf (cond c (cond (every (onBoard b) (companionsOf (resourceAt b i))) (found t) nothing) nothing)
+          → cond c (cond (every (onBoard b) (companionsOf (resourceAt b i))) (found u) nothing) nothing ≡ cond c (cond (every (onBoard b) (companionsOf (resourceAt b i))) (found t) nothing) nothing
+      go true n = with (every (onBoard b) (companionsOf (resourceAt b i))) refl n
+      go false n = refl

@@ -1,0 +1,3 @@
+-- The proofs of answering.
+pub mod Finding
+pub mod Noting

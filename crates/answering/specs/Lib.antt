@@ -1,0 +1,2 @@
+-- What each resource answers to each requirement, as the code keeps it.
+pub mod Tables
