@@ -1,4 +1,5 @@
 -- The proofs of the functions.
 mod Planning
+pub mod Knowing
 pub mod Seating
 pub mod Single

@@ -14,26 +14,14 @@ use Rattle.activity.specs.Check.{every}
 use Rattle.board.specs.declared.Resource.{Resource}
 use Rattle.board.specs.declared.Board.{Board}
 use Rattle.board.specs.Resources.{noDiary, lookup, isAt, onBoard, resourceAt}
-use Rattle.board.specs.Places.{placeOf}
 use Rattle.board.specs.Valid as board
-use Rattle.board.proofs.Facts.{rules}
 use Rattle.board.proofs.Meaning.{resource-of, lookup-means}
 use Rattle.scheduler.specs.Alone.{Share, oneUnit, diaryOf, resourceIn, companionsOf, withCompanions, earliestOf}
 use Rattle.scheduler.specs.Shares.{sharesTo, Wanted}
 use Rattle.scheduler.specs.Arrays.{take-next, map-append, every-append, every-off}
 use Rattle.alone.specs.declared.Members.{Members}
 use Rattle.alone.specs.Plans.{startWith, Known, Seated}
-
--- a place under 16 is the place of the number
-pub place-known : (f : Found) (p : ℕ) → p ≡ placeOf f → p < 16 → f ≡ at p
-unfolding placeOf
-place-known nothing p e l = absurd (omega arith)
-place-known (at q) p e l = ap at (sym e)
-
-pub place-off : (f : Found) (p : ℕ) → p ≡ placeOf f → 16 ≤ p → ((q : ℕ) → f ≡ at q → q < 16) → isAt f ≡ false
-unfolding placeOf isAt
-place-off nothing p e l h = refl
-place-off (at q) p e l h = absurd (omega (arith, h q refl))
+use Rattle.alone.proofs.Knowing.{place-on, place-none}
 
 one-each : (usage k : ℕ) → k < 4 → getD (usage ∷ replicate 4 1) (k + 1) 0 ≡ 1
 one-each usage k l =
@@ -63,7 +51,7 @@ module _ (b : Board) (v : board.valid b ≡ true) (own : ℕ) (l : own < b .len)
     pub placed-on : place < 16 → Placed b own cs right (set ps (i + 1) place) (i + 1)
     unfolding isAt every
     placed-on h =
-        let e : lookup b number ≡ at place = place-known (lookup b number) place (known number (omega arith)) h in
+        let e : lookup b number ≡ at place = place-on b v places known number (omega arith) h in
         let there : place < b .len = lookup-means b number place e .0 in
         record {
           all = g .all ∙ sym (every-more (onBoard b) (ap isAt e));
@@ -86,7 +74,7 @@ module _ (b : Board) (v : board.valid b ≡ true) (own : ℕ) (l : own < b .len)
     -- one that is not
     pub placed-off : 16 ≤ place → Placed b own cs false ps (i + 1)
     placed-off h =
-        let none : onBoard b number ≡ false = place-off (lookup b number) place (known number (omega arith)) h (λ p e. omega (arith, lookup-means b number p e .0, rules b v .few)) in
+        let none : onBoard b number ≡ false = place-none b v places known number (omega arith) h in
         record {
           all = sym (every-off (onBoard b) 0 cs i (i + 1) (omega arith) (omega arith) none);
           first = g .first;

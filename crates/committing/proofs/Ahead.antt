@@ -28,7 +28,7 @@ use Rattle.scheduler.specs.Committed.{Bookable, Right, Room, step-long, lookup-
 use Rattle.scheduler.specs.Lists.{Each, each-on, each-map}
 use Rattle.scheduler.specs.Ruled.{diary-at}
 use Rattle.alone.specs.Plans.{Known}
-use Rattle.committing.proofs.Rows.{number-place}
+use Rattle.alone.proofs.Knowing.{number-place}
 
 -- a booking that is not refused
 pub book-taken : (t : ResourceTimeline) (start end category u : ℕ) → timeline.valid t ≡ true → t .len < 64 → Bookable start end category → 1 ≤ u → u ≤ 10000

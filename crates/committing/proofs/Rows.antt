@@ -15,15 +15,14 @@ use Rattle.activity.specs.Check.{every}
 use Rattle.board.specs.declared.Board.{Board}
 use Rattle.board.specs.Resources.{resourceAt, lookup, isAt, onBoard}
 use Rattle.board.specs.Valid.{valid}
-use Rattle.board.specs.Places.{placeOf}
 use Rattle.board.proofs.Facts.{rules}
-use Rattle.board.proofs.Meaning.{lookup-means, resource-of}
 use Rattle.scheduler.specs.Alone.{diaryOf}
 use Rattle.scheduler.specs.Arrays.{take-next}
 use Rattle.scheduler.specs.Committing.{Line, lineOf, linesOf, entriesOn}
-use Rattle.scheduler.specs.Ruled.{on-place, diary-at}
+use Rattle.scheduler.specs.Ruled.{diary-at}
 use Rattle.scheduler.specs.Tests.{both-ways}
 use Rattle.alone.specs.Plans.{Known}
+use Rattle.alone.proofs.Knowing.{place-on, number-place}
 use Rattle.committing.specs.Lines.{numbered, metered, roomy, Counted}
 
 -- the lines are the first rows, read one by one
@@ -166,28 +165,12 @@ few-next xs i v l m h k n =
 -- the checks of the rows are those of the lines
 module _ (b : Board) (v : valid b ≡ true) (places : List ℕ) (known : Known b places) where
   -- a number with a place is on the board
-  place-on : (n : ℕ) → n < 16 → getD places n 0 < 16 → lookup b n ≡ at (getD places n 0)
-  unfolding placeOf
-  place-on n l m = go (lookup b n) refl
-    where
-      go : (f : Found) → lookup b n ≡ f → f ≡ at (getD places n 0)
-      go nothing e = absurd (omega (arith, known n l ∙ ap placeOf e))
-      go (at p) e = ap at (sym (known n l ∙ ap placeOf e))
-
-  pub number-place : (n : ℕ) → onBoard b n ≡ true → (n < 16) × (lookup b n ≡ at (getD places n 0)) × (getD places n 0 < b .len)
-  unfolding placeOf
-  number-place n o =
-      let w = on-place b v n o in
-      let low : n < 16 = omega (arith, lookup-means b n (w .0) (w .1) .1, resource-of b v (w .0) (w .2) .number) in
-      let z : getD places n 0 ≡ w .0 = known n low ∙ ap placeOf (w .1) in
-      (low, rw z (w .1), rw z (w .2))
-
   numbered-is : (row : List ℕ) → numbered places row ≡ onBoard b (lineOf row .number)
   unfolding lineOf isAt
   numbered-is row =
       both-ways (numbered places row) (onBoard b (getD row 0 0))
-      (λ e. let w = number-is places row e in ap isAt (place-on (getD row 0 0) (w .0) (w .1)))
-      (λ o. let w = number-place (getD row 0 0) o in number-on places row (w .0) (omega (arith, w .2, rules b v .few)))
+      (λ e. let w = number-is places row e in ap isAt (place-on b v places known (getD row 0 0) (w .0) (w .1)))
+      (λ o. let w = number-place b v places known (getD row 0 0) o in number-on places row (w .0) (omega (arith, w .2, rules b v .few)))
 
   pub numbers-lines : (n : ℕ) (slate : List (List ℕ)) → every (numbered places) (take n slate) ≡ every (λ l. onBoard b (l .number)) (linesOf n slate)
   numbers-lines n slate =
@@ -199,7 +182,7 @@ module _ (b : Board) (v : valid b ≡ true) (places : List ℕ) (known : Known b
     roomy-is : (row : List ℕ) → numbered places row ≡ true → roomy places lens tally row ≡ leb (diaryOf b (lineOf row .number) .len + entriesOn (lineOf row .number) (linesOf n slate)) 64
     unfolding roomy
     roomy-is row e =
-        let w = number-place (lineOf row .number) (sym (numbered-is row) ∙ e) in
+        let w = number-place b v places known (lineOf row .number) (sym (numbered-is row) ∙ e) in
         rw (counted (lineOf row .number) (w .0), long (getD places (lineOf row .number) 0) (w .2), diary-at b v (lineOf row .number) (getD places (lineOf row .number) 0) (w .1)) refl
 
     pub room-lines : every (numbered places) (take n slate) ≡ true

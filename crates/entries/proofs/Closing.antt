@@ -12,11 +12,7 @@ use Rattle.calendar.specs.Basics.{same-or-not}
 use Rattle.timeline.specs.declared.ResourceTimeline.{ResourceTimeline}
 use Rattle.timeline.specs.Valid as timeline
 use Rattle.board.specs.declared.Board.{Board}
-use Rattle.board.specs.Resources.{noDiary, resourceAt, lookup, onBoard}
-use Rattle.board.specs.Valid.{valid}
-use Rattle.board.proofs.Meaning.{lookup-means, resource-of}
-use Rattle.board.specs.Places.{placeOf}
-use Rattle.scheduler.specs.Ruled.{on-place}
+use Rattle.board.specs.Resources.{noDiary, resourceAt, lookup}
 use Rattle.scheduler.specs.declared.Entry.{Entry}
 use Rattle.scheduler.specs.Alone.{Share, diaryOf, resourceIn}
 use Rattle.scheduler.specs.Fitting.{shareOf, sharesOf}
@@ -25,24 +21,7 @@ use Rattle.scheduler.specs.Latest.{shares-same}
 use Rattle.entries.specs.Parts.{noEntry}
 use Rattle.scheduler.specs.Arrays.{map-append, take-next}
 
--- a number on the board, the place that is known of it, and its diary
-pub record OnIt (b : Board) (number place : ℕ) : Type 0 where
-  pub found : lookup b number ≡ at place
-  pub low : place < b .len
-  pub kept : timeline.valid (resourceAt b place .timeline) ≡ true
-
-pub number-small : (b : Board) → valid b ≡ true → (number : ℕ) → onBoard b number ≡ true → number < 16
-number-small b v number o =
-    let w = on-place b v number o in
-    omega (arith, lookup-means b number (w .0) (w .1) .1, resource-of b v (w .0) (w .2) .number)
-
-pub known-place : (b : Board) → valid b ≡ true → (number place : ℕ) → onBoard b number ≡ true → place ≡ placeOf (lookup b number) → OnIt b number place
-unfolding placeOf
-known-place b v number place o e =
-    let w = on-place b v number o in
-    let z : place ≡ w .0 = e ∙ ap placeOf (w .1) in
-    rw z (record { found = w .1; low = w .2; kept = resource-of b v (w .0) (w .2) .timeline })
-
+-- the first i entries behind the own calendar
 pub record Closed (b : Board) (own : ResourceTimeline) (es : List Entry) (ts : List ResourceTimeline) (us : List ℕ) (i : ℕ) : Type 0 where
   pub long : length ts ≡ 25
   pub wide : length us ≡ 25

@@ -10,7 +10,7 @@ ghost use mathlib.Core.Path.{_≡_};
 ghost use mathlib.Core.Bool.{true};
 ghost use mathlib.Core.List.{[], _∷_, _++_, map};
 ghost use Prim.Native.Nat.{ℕ, _+_, _^_, _≤_, _<_};
-ghost use lib.ListN.{length, getD, take};
+ghost use lib.ListN.{length, getD, take, replicate};
 ghost use Rattle.calendar.specs.Valid as calendar;
 ghost use Rattle.activity.specs.Lawful.{Lawful};
 ghost use Rattle.board.specs.Resources.{onBoard};
@@ -50,7 +50,7 @@ struct Parts {
 }
 
 pub fn no_entries() -> Entries
-    ensures { λ r. ⌜ (r .count ≡ 0) × (length (r .entries) ≡ 24) ⌝ }
+    ensures { λ r. ⌜ (r .count ≡ 0) × (r .entries ≡ replicate 24 noEntry) ⌝ }
 {
     let none = Entry {
         number: 0,

@@ -1,3 +1,4 @@
+-- `entries::closing_of` meets its contract. The loop: the diaries of the entries so far (Closing).
 use Rattle.entries.proofs.closing_of.Statement.{statement}
 use Rattle.entries.proofs.closing_of.Tie as tie
 use Rattle.entries.proofs.closing_of.Reads as reads
@@ -12,7 +13,9 @@ use Rattle.board.specs.Resources.{noDiary}
 use Rattle.board.proofs.Facts.{rules}
 use Rattle.scheduler.specs.Owning.{own-valid}
 use Rattle.entries.specs.Parts.{noEntry}
-use Rattle.entries.proofs.Closing.{Closed, closed-none, closed-next, OnIt, number-small, known-place}
+use Rattle.board.proofs.Meaning.{resource-of}
+use Rattle.alone.proofs.Knowing.{number-place}
+use Rattle.entries.proofs.Closing.{Closed, closed-none, closed-next}
 
 abbrev Inv-loop : tie.InvT-loop
 Inv-loop b e places n g₀ i₀ g i =
@@ -21,30 +24,24 @@ Inv-loop b e places n g₀ i₀ g i =
 abbrev μ-loop : tie.MeasureT-loop
 μ-loop b e places n g₀ i₀ g i = n - i
 
--- src/lib.rt:229:9
 own-timeline-requires : tie.Need-own-timeline-requires Inv-loop μ-loop
 own-timeline-requires c κs = search needs
 
--- src/lib.rt:234:14
 add-t19 : tie.Need-add-t19 Inv-loop μ-loop
 add-t19 c = search needs
 
--- src/lib.rt:237:5
 loop-holds : tie.Need-loop-holds Inv-loop μ-loop
 loop-holds c =
     let q = c .before .pre in
     let o = c .own-timeline .ensures in
     (q .0 .3, omega arith, refl, simp length-map at (c .before .good .1 .0 .1 .1 .0 .1 .0 .1), closed-none (c .before .args .t1) _ (c .before .args .t2 .entries) (rw o (own-valid _ (q .0 .2))))
 
--- src/lib.rt:238:17
 mul-x : tie.Need-mul-x Inv-loop μ-loop
 mul-x c = search needs
 
--- src/lib.rt:238:17
 element-copy-out-x : tie.Need-element-copy-out-x Inv-loop μ-loop
 element-copy-out-x c = search needs
 
--- src/lib.rt:239:22
 cast-number : tie.Need-cast-number Inv-loop μ-loop
 cast-number c =
     let a = c .before .before .before .before .before .args in
@@ -53,10 +50,10 @@ cast-number c =
     let i = c .before .before .before .loop .i in
     let l = c .before .before .loop-test .taken in
     let number = getD (a .t2 .entries) i noEntry .number in
-    let small = number-small (a .t1) (q .0 .0) number (q .1 i l .0) in
+    let on = number-place (a .t1) (q .0 .0) (a .t3) (q .0 .1) number (q .1 i l .0) in
+    let small = on .0 in
     search needs
 
--- src/lib.rt:240:18
 mul-at : tie.Need-mul-at Inv-loop μ-loop
 mul-at c =
     let a = c .before .before .before .before .before .args in
@@ -65,10 +62,10 @@ mul-at c =
     let i = c .before .before .before .loop .i in
     let l = c .before .before .loop-test .taken in
     let number = getD (a .t2 .entries) i noEntry .number in
-    let small = number-small (a .t1) (q .0 .0) number (q .1 i l .0) in
+    let on = number-place (a .t1) (q .0 .0) (a .t3) (q .0 .1) number (q .1 i l .0) in
+    let small = on .0 in
     search needs
 
--- src/lib.rt:240:18
 array-read-at : tie.Need-array-read-at Inv-loop μ-loop
 array-read-at c =
     let a = c .before .before .before .before .before .args in
@@ -77,10 +74,10 @@ array-read-at c =
     let i = c .before .before .before .loop .i in
     let l = c .before .before .loop-test .taken in
     let number = getD (a .t2 .entries) i noEntry .number in
-    let small = number-small (a .t1) (q .0 .0) number (q .1 i l .0) in
+    let on = number-place (a .t1) (q .0 .0) (a .t3) (q .0 .1) number (q .1 i l .0) in
+    let small = on .0 in
     small
 
--- src/lib.rt:241:17
 mul-r : tie.Need-mul-r Inv-loop μ-loop
 mul-r c =
     let a = c .before .before .before .before .before .args in
@@ -89,13 +86,12 @@ mul-r c =
     let i = c .before .before .before .loop .i in
     let l = c .before .before .loop-test .taken in
     let number = getD (a .t2 .entries) i noEntry .number in
-    let small = number-small (a .t1) (q .0 .0) number (q .1 i l .0) in
-    let on = known-place (a .t1) (q .0 .0) number (getD (a .t3) number 0) (q .1 i l .0) (q .0 .1 number small) in
-    let low = on .low in
+    let on = number-place (a .t1) (q .0 .0) (a .t3) (q .0 .1) number (q .1 i l .0) in
+    let small = on .0 in
+    let low = on .2 in
     let few = rules (a .t1) (q .0 .0) .few in
     search needs
 
--- src/lib.rt:241:17
 element-copy-out-r : tie.Need-element-copy-out-r Inv-loop μ-loop
 element-copy-out-r c =
     let a = c .before .before .before .before .before .args in
@@ -104,45 +100,36 @@ element-copy-out-r c =
     let i = c .before .before .before .loop .i in
     let l = c .before .before .loop-test .taken in
     let number = getD (a .t2 .entries) i noEntry .number in
-    let small = number-small (a .t1) (q .0 .0) number (q .1 i l .0) in
-    let on = known-place (a .t1) (q .0 .0) number (getD (a .t3) number 0) (q .1 i l .0) (q .0 .1 number small) in
-    let low = on .low in
+    let on = number-place (a .t1) (q .0 .0) (a .t3) (q .0 .1) number (q .1 i l .0) in
+    let small = on .0 in
+    let low = on .2 in
     let few = rules (a .t1) (q .0 .0) .few in
     omega arith
 
--- src/lib.rt:243:21
 add-other : tie.Need-add-other Inv-loop μ-loop
 add-other c = search needs
 
--- src/lib.rt:243:9
 mul-other : tie.Need-mul-other Inv-loop μ-loop
 mul-other c = search needs
 
--- src/lib.rt:243:9
 element-set-from-other : tie.Need-element-set-from-other Inv-loop μ-loop
 element-set-from-other c = search needs
 
--- src/lib.rt:244:17
 add-g : tie.Need-add-g Inv-loop μ-loop
 add-g c = search needs
 
--- src/lib.rt:244:9
 mul-g : tie.Need-mul-g Inv-loop μ-loop
 mul-g c = search needs
 
--- src/lib.rt:244:9
 element-write-g : tie.Need-element-write-g Inv-loop μ-loop
 element-write-g c = search needs
 
--- src/lib.rt:245:9
 add-i : tie.Need-add-i Inv-loop μ-loop
 add-i c = search needs
 
--- src/lib.rt:237:5
 loop-less : tie.Need-loop-less Inv-loop μ-loop
 loop-less c = search needs
 
--- src/lib.rt:237:5
 loop-again : tie.Need-loop-again Inv-loop μ-loop
 loop-again c =
     let a = c .before .before .before .before .before .before .before .args in
@@ -151,13 +138,12 @@ loop-again c =
     let i = c .before .before .before .before .before .loop .i in
     let l = c .before .before .before .before .loop-test .taken in
     let number = getD (a .t2 .entries) i noEntry .number in
-    let small = number-small (a .t1) (q .0 .0) number (q .1 i l .0) in
-    let on = known-place (a .t1) (q .0 .0) number (getD (a .t3) number 0) (q .1 i l .0) (q .0 .1 number small) in
-    let low = on .low in
+    let on = number-place (a .t1) (q .0 .0) (a .t3) (q .0 .1) number (q .1 i l .0) in
+    let small = on .0 in
+    let low = on .2 in
     let few = rules (a .t1) (q .0 .0) .few in
-    (v .0, omega arith, v .2, v .3, closed-next (a .t1) _ (a .t2 .entries) (c .before .before .before .before .before .loop .g .timelines) (c .before .before .before .before .before .loop .g .units) i (v .4) (omega (arith, v .0)) (omega (arith, v .0, v .3)) (getD (a .t3) number 0) (on .found) (on .kept) (q .1 i l .1))
+    (v .0, omega arith, v .2, v .3, closed-next (a .t1) _ (a .t2 .entries) (c .before .before .before .before .before .loop .g .timelines) (c .before .before .before .before .before .loop .g .units) i (v .4) (omega (arith, v .0)) (omega (arith, v .0, v .3)) (getD (a .t3) number 0) (on .1) (resource-of (a .t1) (q .0 .0) (getD (a .t3) number 0) (on .2) .timeline) (q .1 i l .1))
 
--- src/lib.rt:224:1
 returns : tie.Need-returns Inv-loop μ-loop
 returns c =
     let a = c .before .before .before .args in

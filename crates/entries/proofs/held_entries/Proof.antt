@@ -28,7 +28,7 @@ no-entries-requires c κs = search needs
 
 -- src/lib.rt:129:5
 loop-holds : tie.Need-loop-holds Inv-loop μ-loop
-loop-holds c = (omega arith, c .no-entries .ensures .1, λ k l. absurd (omega arith))
+loop-holds c = (omega arith, ap length (c .no-entries .ensures .1), λ k l. absurd (omega arith))
 
 -- src/lib.rt:130:17
 mul-h : tie.Need-mul-h Inv-loop μ-loop

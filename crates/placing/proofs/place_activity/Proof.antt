@@ -100,7 +100,7 @@ fitted-requires c κs =
     let w : activityRefusal (a .a) (c .before .before .before .before .before .before .before .ready-of .result) ≡ 0 = rw from (ready-lawful (a .a) (a .ready) (o .2)) in
     let d = x .lawful .base-short in
     let k = c .before .before .before .no-entries .ensures in
-    (v, λ n l. p .1 n l v, o .0, record { few = omega (arith, k .0); long = k .1; each = λ i l. absurd (omega (arith, k .0)) }, omega (arith, from, ready-range (a .a .release) (a .ready) (x .release-range) (x .ready-range)), omega (arith, d .setup-range, d .process-range, d .teardown-range), o .1)
+    (v, λ n l. p .1 n l v, o .0, record { few = omega (arith, k .0); long = ap length (k .1); each = λ i l. absurd (omega (arith, k .0)) }, omega (arith, from, ready-range (a .a .release) (a .ready) (x .release-range) (x .ready-range)), omega (arith, d .setup-range, d .process-range, d .teardown-range), o .1)
 
 -- src/lib.rt:115:9
 same-length : tie.Need-same-length
