@@ -1,5 +1,4 @@
 -- Laws on plain values, for the proofs of this crate.
-pub mod Listing
 pub mod Gaps
 pub mod Finding
 pub mod Trying

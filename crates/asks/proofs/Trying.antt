@@ -21,11 +21,11 @@ use Rattle.timeline.specs.Free.{free}
 use Rattle.timeline.specs.Earliest.{fitsAt, freeTo, startsAt, earliestFit, earliestResumable}
 use Rattle.timeline.specs.Ask.{ended, resumed}
 use Rattle.timeline.specs.Steps.{Next}
-use Rattle.asks.specs.Steps.{Listed, Event, Candidates}
+use Rattle.candidates.specs.Steps.{Listed, Event, Candidates}
 use Rattle.timeline.proofs.Rules.{Rules, rules}
 use Rattle.timeline.proofs.Loading.{free-room}
 use Rattle.timeline.proofs.Searching.{Sought, sought-start, sought-on}
-use Rattle.asks.proofs.Listing.{first-is, next-listed, next-none}
+use Rattle.candidates.proofs.Listing.{first-is, next-listed, next-none}
 use Rattle.timeline.proofs.Stepping.{Still, fits-at-back, starts-at-back, next-still}
 use Rattle.asks.proofs.Finding.{fit-found, fit-none, start-found, start-none, resumed-at, resumed-none}
 
@@ -90,7 +90,7 @@ event-range t r y e =
     (λ (w : Listed (t .ends) (t .len) y). omega (arith, r .filled (w .0) (w .1) .range, w .2)))
     e
 
-module _ (t : ResourceTimeline) (v : valid t ≡ true) (from : ℕ) (xs : List ℕ) (n : ℕ) (c : Candidates t from xs n) (a : from ≤ 2 ^ 43) where
+module _ (t : ResourceTimeline) (v : valid t ≡ true) (from : ℕ) (ws xs : List ℕ) (n : ℕ) (c : Candidates t from ws xs n) (a : from ≤ 2 ^ 43) where
   pub candidate-range : (i : ℕ) → i < n → getD xs i 0 ≤ 2 ^ 43
   candidate-range i l =
       ⊎-elim
@@ -101,17 +101,17 @@ module _ (t : ResourceTimeline) (v : valid t ≡ true) (from : ℕ) (xs : List �
   -- where each candidate before the i-th fails, so does each instant before it
   module _ (P : ℕ → Bool) (back : (y : ℕ) → Still t (suc y) → P (suc y) ≡ true → P y ≡ true) where
     passed : (i : ℕ) → i < n → ((k : ℕ) → k < i → P (getD xs k 0) ≡ false) → Sought P from (getD xs i 0)
-    passed zero l f = rw (first-is t from xs n c .1) (sought-start P from)
+    passed zero l f = rw (first-is t from ws xs n c .1) (sought-start P from)
     passed (suc i) l f =
         let e : i + 1 ≡ suc i = omega arith in
-        let s : Next t (getD xs i 0) (getD xs (suc i) 0) = rw e at (next-listed t from xs n c i (omega arith) (omega (arith, candidate-range (i + 1) (omega arith)))) in
+        let s : Next t (getD xs i 0) (getD xs (suc i) 0) = rw e at (next-listed t from ws xs n c i (omega arith) (omega (arith, candidate-range (i + 1) (omega arith)))) in
         sought-on P from (getD xs i 0) (getD xs (suc i) 0) (passed i (omega arith) (λ k h. f k (omega arith))) (f i (omega arith)) (s .above)
         (λ y b d. back y (next-still t (getD xs i 0) (getD xs (suc i) 0) y s b d))
 
     all-passed : ((k : ℕ) → k < n → P (getD xs k 0) ≡ false) → Sought P from (2 ^ 63)
     all-passed f =
-        let z = first-is t from xs n c .0 in
-        let s = next-none t from xs n c (n - 1) (omega arith) (omega (arith, candidate-range (n - 1) (omega arith))) in
+        let z = first-is t from ws xs n c .0 in
+        let s = next-none t from ws xs n c (n - 1) (omega arith) (omega (arith, candidate-range (n - 1) (omega arith))) in
         sought-on P from (getD xs (n - 1) 0) (2 ^ 63) (passed (n - 1) (omega arith) (λ k h. f k (omega arith))) (f (n - 1) (omega arith)) (s .above)
         (λ y b d. back y (next-still t (getD xs (n - 1) 0) (2 ^ 63) y s b d))
 

@@ -3,9 +3,10 @@ use borrow.Author.Tests.{not-true, leb-true, lt-ltb, le-ltb, le-leb, lt-leb}
 use mathlib.Core.Bool.{true, false, not, _&&_}
 use mathlib.Core.Logic.{⊎-elim}
 use mathlib.Core.Path.{_≡_, refl, sym, _∙_}
-use Prim.Native.Nat.{ℕ, _+_, _-_, _≤_, _<_}
+use Prim.Native.Nat.{ℕ, suc, _+_, _-_, _≤_, _<_}
+use native.Mathlib.Nat.{eq-or-lt-of-le}
 use native.Mathlib.Omega.{arith}
-use lib.Dec.{leb}
+use lib.Dec.{leb, ltb}
 use Rattle.calendar.specs.Basics.{and-split, and-join, lt-or-ge}
 use Rattle.calendar.specs.Search.{Found, nothing, at}
 use Rattle.board.specs.Resources.{resourceAt, numberAt, lookupTo, lookup, isAt}
@@ -100,3 +101,14 @@ off-above b n v l = go (lookup b n) refl
         let r = rules b v in
         let m = lookup-below b (b .len) n k e in
         absurd (omega (arith, resource-number _ (r .right k m), lookup-number b (b .len) n k e))
+
+-- below a number or the next one, where it is another
+pub same-side : (a m : ℕ) → (m ≡ a → ⊥) → ltb a (suc m) ≡ ltb a m
+same-side a m ne =
+    ⊎-elim
+    (λ (l : a < m). lt-ltb a (suc m) (omega arith) ∙ sym (lt-ltb a m l))
+    (λ (l : m ≤ a). le-ltb a (suc m) (past l) ∙ sym (le-ltb a m l))
+    (lt-or-ge a m)
+  where
+    past : m ≤ a → suc m ≤ a
+    past l = ⊎-elim (λ (e : m ≡ a). absurd (ne e)) (λ (h : m < a). h) (eq-or-lt-of-le l)

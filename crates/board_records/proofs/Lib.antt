@@ -3,4 +3,3 @@ pub mod Lengths
 pub mod Bits
 pub mod Ordering
 pub mod Doing
-pub mod Asking

@@ -26,7 +26,7 @@ use Rattle.board_records.specs.declared.Stepped.{Stepped}
 use Rattle.board_records.specs.declared.order.Ordered.{Ordered}
 use Rattle.board_records.specs.Bodies.{byte}
 use Rattle.board_records.specs.Desk.{orderWith}
-use Rattle.board_records.specs.Orders.{durationAt, releaseOf, orderAt, orderDoes, withRequirement, requirementAt, withTiming, timingAt, partReply}
+use Rattle.board_records.specs.Orders.{durationAt, releaseOf, orderBy, orderAt, flagAbove, orderDoes, withRequirement, requirementAt, withTiming, timingAt, partReply}
 
 pub released : (p n : ℕ) → p ≡ 1 → At n ≡ releaseOf p n
 unfolding releaseOf
@@ -76,34 +76,37 @@ required-kept a q h =
     let m : ltb (a .len) 5 ≡ true = lt-ltb (a .len) 5 (omega arith) in
     rw (lt-ltb (a .len) 4 h, m) refl
 
+module _ (bs : List ℕ) (i : ℕ) where
+  pub above-first : 1 < byte bs (i + 25) → true ≡ flagAbove bs i
+  above-first h = rw (lt-ltb 1 (byte bs (i + 25)) h) refl
+
+  pub above-second : byte bs (i + 25) ≤ 1 → 1 < byte bs (i + 26) → true ≡ flagAbove bs i
+  above-second g h = rw (le-ltb 1 (byte bs (i + 25)) g, lt-ltb 1 (byte bs (i + 26)) h) refl
+
+  pub above-last : byte bs (i + 25) ≤ 1 → byte bs (i + 26) ≤ 1 → ltb 1 (byte bs (i + 37)) ≡ flagAbove bs i
+  above-last f g = rw (le-ltb 1 (byte bs (i + 25)) f, le-ltb 1 (byte bs (i + 26)) g) refl
+
+  -- the order of a body from its parts
+  pub by-parts : (c : Calendar) (t : ActivityDuration) (r : Release) (n o : ℕ) (a : Activity)
+      → t ≡ durationAt bs (i + 1) → n ≡ little bs (i + 27) 8 → r ≡ releaseOf (byte bs (i + 26)) n → o ≡ little bs (i + 35) 2
+      → a ≡ orderWith (byte bs i) t (eqb (byte bs (i + 25)) 1) r c o → a ≡ orderBy bs i c
+  unfolding orderBy
+  by-parts c t r n o a et en er eo ea = rw (← et, ← en, ← er, ← eo) ea
+
 module _ (d : Desk) (bs : List ℕ) (i : ℕ) where
-  pub flag-first : 1 < byte bs (i + 25) → record { desk = d; refusal = 9 } ≡ orderDoes d bs i
+  pub flagged : true ≡ flagAbove bs i → record { desk = d; refusal = 9 } ≡ orderDoes d bs i
   unfolding orderDoes
-  flag-first h = rw (lt-ltb 1 (byte bs (i + 25)) h) refl
+  flagged h = rw (← h) refl
 
-  pub flag-second : byte bs (i + 25) ≤ 1 → 1 < byte bs (i + 26) → record { desk = d; refusal = 9 } ≡ orderDoes d bs i
-  unfolding orderDoes
-  flag-second g h = rw (le-ltb 1 (byte bs (i + 25)) g, lt-ltb 1 (byte bs (i + 26)) h) refl
-
-  pub flag-third : byte bs (i + 25) ≤ 1 → byte bs (i + 26) ≤ 1 → 1 < byte bs (i + 37) → record { desk = d; refusal = 9 } ≡ orderDoes d bs i
-  unfolding orderDoes
-  flag-third f g h = rw (le-ltb 1 (byte bs (i + 25)) f, le-ltb 1 (byte bs (i + 26)) g, lt-ltb 1 (byte bs (i + 37)) h) refl
-
-  -- the order of a body with its flags right, from its parts
-  module _ (f : byte bs (i + 25) ≤ 1) (g : byte bs (i + 26) ≤ 1) (h : byte bs (i + 37) ≤ 1) (t : ActivityDuration) (r : Release) (n o : ℕ)
-      (et : t ≡ durationAt bs (i + 1)) (en : n ≡ little bs (i + 27) 8) (er : r ≡ releaseOf (byte bs (i + 26)) n) (eo : o ≡ little bs (i + 35) 2) where
-    pub without-calendar : (a : Activity) (c : Calendar) → byte bs (i + 37) ≡ 0 → c ≡ empty → a ≡ orderWith (byte bs i) t (eqb (byte bs (i + 25)) 1) r c o
-        → record { desk = record { timeline = d .timeline; activity = a; board = d .board }; refusal = 0 } ≡ orderDoes d bs i
+  module _ (f : false ≡ flagAbove bs i) (a : Activity) (c : Calendar) (ea : a ≡ orderBy bs i c) where
+    pub without-calendar : byte bs (i + 37) ≡ 0 → c ≡ empty → record { desk = record { timeline = d .timeline; activity = a; board = d .board }; refusal = 0 } ≡ orderDoes d bs i
     unfolding orderDoes orderAt
-    without-calendar a c z ec ea =
-        rw (le-ltb 1 (byte bs (i + 25)) f, le-ltb 1 (byte bs (i + 26)) g, le-ltb 1 (byte bs (i + 37)) h, eq-eqb (byte bs (i + 37)) 0 z, ← et, ← en, ← er, ← eo, ← ec, ← ea) refl
+    without-calendar z ec = rw (← f, eq-eqb (byte bs (i + 37)) 0 z, ← ec, ← ea) refl
 
-    pub with-calendar : (a : Activity) (u : ResourceTimeline) → (byte bs (i + 37) ≡ 0 → ⊥) → u ≡ newDiary (pos 1)
-        → a ≡ orderWith (byte bs i) t (eqb (byte bs (i + 25)) 1) r (d .timeline .calendar) o
+    pub with-calendar : (u : ResourceTimeline) → (byte bs (i + 37) ≡ 0 → ⊥) → u ≡ newDiary (pos 1) → d .timeline .calendar ≡ c
         → record { desk = record { timeline = u; activity = a; board = d .board }; refusal = 0 } ≡ orderDoes d bs i
     unfolding orderDoes orderAt
-    with-calendar a u z eu ea =
-        rw (le-ltb 1 (byte bs (i + 25)) f, le-ltb 1 (byte bs (i + 26)) g, le-ltb 1 (byte bs (i + 37)) h, ne-eqb (byte bs (i + 37)) 0 z, ← et, ← en, ← er, ← eo, ← eu, ← ea) refl
+    with-calendar u z eu ec = rw (← f, ne-eqb (byte bs (i + 37)) 0 z, ec, ← eu, ← ea) refl
 
 pub speed-is : (k : ℕ) (bs : List ℕ) (i n : ℕ) (s : Float) → k ≡ 23 → n ≡ little bs (i + 1) 8 → s ≡ ofBits binary64 n → Speed s ≡ timingAt k bs i
 unfolding timingAt

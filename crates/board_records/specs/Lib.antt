@@ -1,8 +1,7 @@
--- What records of kinds 1 to 4 and 16 to 24 do (docs/RECORDS.md): what is in hand, the bodies, the order, each record; then the asks of the
--- runs beside the Rust, and runs on the definitions.
+-- What records of kinds 1 to 4 and 16 to 24 do (docs/RECORDS.md): what is in hand, the bodies, the order, each record; then
+-- runs on the definitions.
 pub mod Desk
 pub mod Bodies
 pub mod Orders
 pub mod Records
-pub mod Asks
 pub mod Runs

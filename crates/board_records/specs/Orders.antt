@@ -6,6 +6,7 @@ use lib.ListN.{getD, set}
 use lib.IntN.{pos}
 use lib.Dec.{ltb, eqb}
 use lib.Ieee.{binary64, ofBits}
+use Rattle.calendar.specs.declared.Calendar.{Calendar}
 use Rattle.calendar.specs.Add.{empty}
 use Rattle.timeline.specs.Book.{newDiary}
 use Rattle.records.specs.Numbers.{little}
@@ -30,15 +31,22 @@ unfoldable pub releaseOf : ℕ → ℕ → Release
 releaseOf present release = cond (eqb present 1) (At release) Absent
 
 -- the order of a body: category (1), three durations, resumable (1), release present (1), release (8), come from (2), own calendar (1)
+unfoldable pub orderBy : List ℕ → ℕ → Calendar → Activity
+orderBy bs i c =
+    orderWith (byte bs i) (durationAt bs (i + 1)) (eqb (byte bs (i + 25)) 1) (releaseOf (byte bs (i + 26)) (little bs (i + 27) 8)) c
+    (little bs (i + 35) 2)
+
 unfoldable pub orderAt : Desk → List ℕ → ℕ → Activity
-orderAt d bs i =
-    orderWith (byte bs i) (durationAt bs (i + 1)) (eqb (byte bs (i + 25)) 1) (releaseOf (byte bs (i + 26)) (little bs (i + 27) 8))
-    (cond (eqb (byte bs (i + 37)) 0) empty (d .timeline .calendar)) (little bs (i + 35) 2)
+orderAt d bs i = orderBy bs i (cond (eqb (byte bs (i + 37)) 0) empty (d .timeline .calendar))
+
+-- one of its three flags is above 1
+abbrev pub flagAbove : List ℕ → ℕ → Bool
+flagAbove bs i = ltb 1 (byte bs (i + 25)) || (ltb 1 (byte bs (i + 26)) || ltb 1 (byte bs (i + 37)))
 
 -- a flag above 1: 9; where the calendar was taken, the diary in hand is empty again
 unfoldable pub orderDoes : Desk → List ℕ → ℕ → Stepped
 orderDoes d bs i =
-    cond (ltb 1 (byte bs (i + 25)) || (ltb 1 (byte bs (i + 26)) || ltb 1 (byte bs (i + 37)))) (record { desk = d; refusal = 9 })
+    cond (flagAbove bs i) (record { desk = d; refusal = 9 })
     (record {
       desk = record {
         timeline = cond (eqb (byte bs (i + 37)) 0) (d .timeline) (newDiary (pos 1));

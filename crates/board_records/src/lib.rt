@@ -7,7 +7,6 @@ use records::number;
 use timeline::ResourceTimeline;
 
 mod order;
-pub mod queries;
 
 ghost use mathlib.Core.Path.{_≡_};
 ghost use Prim.Native.Nat.{_+_, _≤_, _<_};

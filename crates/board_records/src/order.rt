@@ -17,7 +17,7 @@ ghost use lib.Dec.{eqb};
 ghost use lib.Ieee.{binary64, ofBits};
 ghost use Rattle.board_records.specs.Bodies.{fixedLen};
 ghost use Rattle.board_records.specs.Desk.{orderWith, emptyOrder};
-ghost use Rattle.board_records.specs.Orders.{durationAt, releaseOf, withRequirement, withTiming, requirementAt, timingAt, partReply, orderDoes};
+ghost use Rattle.board_records.specs.Orders.{durationAt, releaseOf, withRequirement, withTiming, requirementAt, timingAt, partReply, flagAbove, orderBy, orderDoes};
 
 // What a part of an order answers: the refusal's number, 0 for none, and the order, new or unchanged.
 pub struct Ordered {
@@ -95,40 +95,52 @@ fn release_of(present: u8, release: u64) -> Release
     Release::Absent
 }
 
+fn flag_above(bytes: &[u8], at: usize) -> bool
+    requires { ⌜ at + 38 ≤ length (now bytes) ⌝ }
+    ensures { λ r. ⌜ r ≡ flagAbove (now (bytes .entry)) at ⌝ }
+{
+    if bytes[at + 25] > 1 {
+        return true;
+    }
+    if bytes[at + 26] > 1 {
+        return true;
+    }
+    bytes[at + 37] > 1
+}
+
+// The order of a body, with this calendar.
+fn order_by(bytes: &[u8], at: usize, calendar: Calendar) -> Activity
+    requires { ⌜ at + 38 ≤ length (now bytes) ⌝ }
+    ensures { λ r. ⌜ r ≡ orderBy (now (bytes .entry)) at calendar ⌝ }
+{
+    let duration = duration_at(bytes, at + 1);
+    let release = release_of(bytes[at + 26], number(bytes, at + 27, 8));
+    let origins = number(bytes, at + 35, 2) as u16;
+    order_with(
+        bytes[at],
+        duration,
+        bytes[at + 25] == 1,
+        release,
+        calendar,
+        origins,
+    )
+}
+
 // Kind 21: a new order in hand. Where it takes the diary's calendar, an empty diary is in hand afterwards. A flag above 1: 9.
 pub fn new_order(desk: Desk, bytes: &[u8], at: usize) -> Stepped
     requires { ⌜ at + 38 ≤ length (now bytes) ⌝ }
     ensures { λ r. ⌜ r ≡ orderDoes desk (now (bytes .entry)) at ⌝ }
 {
-    let resumable = bytes[at + 25];
-    let present = bytes[at + 26];
-    let own = bytes[at + 37];
+    if flag_above(bytes, at) {
+        return Stepped {
+            desk: desk,
+            refusal: 9,
+        };
+    }
     let mut d = desk;
-    if resumable > 1 {
-        return Stepped {
-            desk: d,
-            refusal: 9,
-        };
-    }
-    if present > 1 {
-        return Stepped {
-            desk: d,
-            refusal: 9,
-        };
-    }
-    if own > 1 {
-        return Stepped {
-            desk: d,
-            refusal: 9,
-        };
-    }
-    let category = bytes[at];
-    let duration = duration_at(bytes, at + 1);
-    let release = release_of(present, number(bytes, at + 27, 8));
-    let origins = number(bytes, at + 35, 2) as u16;
-    if own == 0 {
+    if bytes[at + 37] == 0 {
         let none = Calendar::new();
-        let a = order_with(category, duration, resumable == 1, release, none, origins);
+        let a = order_by(bytes, at, none);
         d.activity = a;
         return Stepped {
             desk: d,
@@ -137,14 +149,7 @@ pub fn new_order(desk: Desk, bytes: &[u8], at: usize) -> Stepped
     }
     let t = d.timeline;
     let calendar = t.calendar;
-    let a = order_with(
-        category,
-        duration,
-        resumable == 1,
-        release,
-        calendar,
-        origins,
-    );
+    let a = order_by(bytes, at, calendar);
     let new = ResourceTimeline::new(1);
     d.timeline = new;
     d.activity = a;

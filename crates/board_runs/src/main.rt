@@ -1,9 +1,9 @@
 // Asks durations, setups, transports and servings of what a stream of records on standard input says, and writes the answers.
 // Kinds 1 to 4 and 16 to 24 are those of `offer`, 40 to 43 its own (tests/beside/README.md): it is run beside the Rust. It only reads and
-// writes; what a record does is in `board_records`.
+// writes; what a record does is in `board_records`, what an ask answers in `board_queries`.
+use board_queries::Answer;
+use board_queries::Turn;
 use board_records::Desk;
-use board_records::queries::Answer;
-use board_records::queries::Turn;
 ghost use mathlib.Core.Path.{_≡_};
 ghost use mathlib.Core.Bool.{true};
 ghost use Prim.Native.Nat.{_+_, _≤_};
@@ -70,7 +70,7 @@ fn next(desk: Desk, buf: &[u8; 65536], at: usize, len: usize) -> Turn
     requires { ⌜ (at ≤ len) × (len ≤ 65536) ⌝ }
     ensures { λ r. ⌜ r .at ≤ len ⌝ }
 {
-    board_records::queries::record(desk, buf, at, len)
+    board_queries::record(desk, buf, at, len)
 }
 
 // A space and a number.

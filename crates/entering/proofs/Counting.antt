@@ -7,12 +7,12 @@ use Prim.Native.Nat.{ℕ, zero, suc, _+_, _≤_, _<_}
 use native.Mathlib.Nat.{eq-or-lt-of-le}
 use native.Mathlib.Omega.{arith}
 use lib.Dec.{ltb}
-use Rattle.calendar.specs.Basics.{lt-or-ge, same-or-not}
+use Rattle.calendar.specs.Basics.{same-or-not}
 use Rattle.calendar.specs.Search.{leastFrom}
 use Rattle.board.specs.Resources.{numberAt, lookupTo, isAt, onBoard}
 use Rattle.board.specs.Valid.{valid}
 use Rattle.board.specs.declared.Board.{Board}
-use Rattle.board.proofs.Facts.{resource-number, Rules, rules}
+use Rattle.board.proofs.Facts.{resource-number, Rules, rules, same-side}
 use Rattle.board.proofs.Seeing.{lookup-here, lookup-there}
 
 -- how many of the first m numbers stand among the first i resources
@@ -24,16 +24,6 @@ held-none : (b : Board) (m : ℕ) → held b 0 m ≡ 0
 unfolding held lookupTo leastFrom isAt
 held-none b zero = refl
 held-none b (suc m) = rw (held-none b m) refl
-
-same-side : (a m : ℕ) → (m ≡ a → ⊥) → ltb a (suc m) ≡ ltb a m
-same-side a m ne =
-    ⊎-elim
-    (λ (l : a < m). lt-ltb a (suc m) (omega arith) ∙ sym (lt-ltb a m l))
-    (λ (l : m ≤ a). le-ltb a (suc m) (past l) ∙ sym (le-ltb a m l))
-    (lt-or-ge a m)
-  where
-    past : m ≤ a → suc m ≤ a
-    past l = ⊎-elim (λ (e : m ≡ a). absurd (ne e)) (λ (h : m < a). h) (eq-or-lt-of-le l)
 
 -- one resource more, its number new
 held-step : (b : Board) (i m : ℕ) → isAt (lookupTo b i (numberAt b i)) ≡ false → held b (suc i) m ≡ held b i m + cond (ltb (numberAt b i) m) 1 0

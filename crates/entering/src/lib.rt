@@ -1,56 +1,21 @@
-// Entries of a board: a resource, a matrix and its entries, a transport, a diary looked up and put back (models/resource.rs,
-// models/constraint.rs; 01, 'Board entries').
+// Entries of a board: a resource, a transport, a diary looked up and put back (models/resource.rs, models/constraint.rs; 01, 'Board
+// entries'). Those of a matrix stand in `matrices` and are passed on.
 use board::Board;
 use board::Entered;
 use board::LastCategory;
 use board::Looked;
 use board::Resource;
-use board::TransitionMatrix;
+pub use matrices::set_initial;
+pub use matrices::set_matrix;
+pub use matrices::set_transition;
 use timeline::ResourceTimeline;
 ghost use mathlib.Core.Path.{_≡_};
 ghost use mathlib.Core.Bool.{_&&_};
-ghost use Prim.Native.Nat.{ℕ, _≤_};
+ghost use Prim.Native.Nat.{_≤_};
 ghost use lib.ListN.{length, getD};
 ghost use lib.Dec.{leb, ltb};
-ghost use Rattle.board.specs.Valid.{every, valid};
-ghost use Rattle.board.specs.Enter.{companionCells, newMatrix, matrixOf, withTransition, withInitial, addRefusal, transportRefusal, addResourceReply, setMatrixReply, setTransitionReply, setInitialReply, setTransportReply, timelineOfReply, putTimelineReply};
-ghost use Rattle.entering.specs.Entry.{entryFor};
-
-// The refusal of an entry for a resource by the board and its number, 0 for none; then its place.
-struct Entry {
-    refusal: u8,
-    place: usize,
-}
-
-fn entry_for(b: Board, number: u8) -> Entry
-    ensures { λ r. ⌜ r ≡ entryFor b number ⌝ }
-{
-    let p = board::core::places_of(b);
-    if !p.right {
-        return Entry {
-            refusal: 15,
-            place: 0,
-        };
-    }
-    if number > 15 {
-        return Entry {
-            refusal: 5,
-            place: 0,
-        };
-    }
-    let places = p.places;
-    let i = places[number as usize];
-    if i >= 16 {
-        return Entry {
-            refusal: 5,
-            place: 0,
-        };
-    }
-    Entry {
-        refusal: 0,
-        place: i,
-    }
-}
+ghost use Rattle.board.specs.Valid.{every};
+ghost use Rattle.board.specs.Enter.{companionCells, addRefusal, transportRefusal, addResourceReply, setTransportReply, timelineOfReply, putTimelineReply};
 
 // A number is on the board, by the places of all numbers.
 fn is_on(places: &[usize; 16], number: u8) -> bool
@@ -60,47 +25,6 @@ fn is_on(places: &[usize; 16], number: u8) -> bool
         return false;
     }
     places[number as usize] < 16
-}
-
-// A matrix with every entry absent.
-fn new_matrix(default: i64, initial: i64) -> TransitionMatrix
-    ensures { λ r. ⌜ r ≡ newMatrix default initial ⌝ }
-{
-    TransitionMatrix {
-        present: true,
-        default: default,
-        initial: initial,
-        transitions: [-1; 256],
-        initials: [-1; 16],
-    }
-}
-
-fn matrix_of(m: TransitionMatrix) -> TransitionMatrix
-    ensures { λ r. ⌜ r ≡ matrixOf m ⌝ }
-{
-    if m.present {
-        return m;
-    }
-    new_matrix(0, 0)
-}
-
-fn with_transition(m: TransitionMatrix, last: u8, this: u8, ms: i64) -> TransitionMatrix
-    requires { ⌜ (last ≤ 15) × (this ≤ 15) ⌝ }
-    ensures { λ r. ⌜ r ≡ withTransition last this ms (matrixOf m) ⌝ }
-{
-    let mut r = matrix_of(m);
-    let k = 16 * (last as usize) + (this as usize);
-    r.transitions[k] = ms;
-    r
-}
-
-fn with_initial(m: TransitionMatrix, category: u8, ms: i64) -> TransitionMatrix
-    requires { ⌜ category ≤ 15 ⌝ }
-    ensures { λ r. ⌜ r ≡ withInitial category ms (matrixOf m) ⌝ }
-{
-    let mut r = matrix_of(m);
-    r.initials[category as usize] = ms;
-    r
 }
 
 // Every companion's number is at most 15, however many there are.
@@ -220,117 +144,6 @@ pub fn add_resource(
     }
 }
 
-// Gives a resource a matrix with every entry absent, or refuses: 15, 5 not on the board, 1 outside 0 to 2^36.
-pub fn set_matrix(board: Board, number: u8, default: i64, initial: i64) -> Entered
-    ensures { λ r. ⌜ r ≡ setMatrixReply board number default initial ⌝ }
-{
-    let e = entry_for(board, number);
-    if e.refusal != 0 {
-        return Entered {
-            refusal: e.refusal,
-            board: board,
-        };
-    }
-    if !board::duration_right(default) {
-        return Entered {
-            refusal: 1,
-            board: board,
-        };
-    }
-    if !board::duration_right(initial) {
-        return Entered {
-            refusal: 1,
-            board: board,
-        };
-    }
-    let m = new_matrix(default, initial);
-    let i = e.place;
-    let mut b = board;
-    let mut r = b.resources[i];
-    r.matrix = m;
-    b.resources[i] = r;
-    Entered {
-        refusal: 0,
-        board: b,
-    }
-}
-
-// Sets the entry of a pair of categories, or refuses: 15, 5 not on the board or a category above 15, 1 outside 0 to 2^36 and not -1.
-pub fn set_transition(board: Board, number: u8, last: u8, this: u8, ms: i64) -> Entered
-    ensures { λ r. ⌜ r ≡ setTransitionReply board number last this ms ⌝ }
-{
-    let e = entry_for(board, number);
-    if e.refusal != 0 {
-        return Entered {
-            refusal: e.refusal,
-            board: board,
-        };
-    }
-    if last > 15 {
-        return Entered {
-            refusal: 5,
-            board: board,
-        };
-    }
-    if this > 15 {
-        return Entered {
-            refusal: 5,
-            board: board,
-        };
-    }
-    if !board::entry_right(ms) {
-        return Entered {
-            refusal: 1,
-            board: board,
-        };
-    }
-    let i = e.place;
-    let mut b = board;
-    let mut r = b.resources[i];
-    let m = with_transition(r.matrix, last, this, ms);
-    r.matrix = m;
-    b.resources[i] = r;
-    Entered {
-        refusal: 0,
-        board: b,
-    }
-}
-
-// Sets the first entry of a category, or refuses as for a pair.
-pub fn set_initial(board: Board, number: u8, category: u8, ms: i64) -> Entered
-    ensures { λ r. ⌜ r ≡ setInitialReply board number category ms ⌝ }
-{
-    let e = entry_for(board, number);
-    if e.refusal != 0 {
-        return Entered {
-            refusal: e.refusal,
-            board: board,
-        };
-    }
-    if category > 15 {
-        return Entered {
-            refusal: 5,
-            board: board,
-        };
-    }
-    if !board::entry_right(ms) {
-        return Entered {
-            refusal: 1,
-            board: board,
-        };
-    }
-    let i = e.place;
-    let mut b = board;
-    let mut r = b.resources[i];
-    let m = with_initial(r.matrix, category, ms);
-    r.matrix = m;
-    b.resources[i] = r;
-    Entered {
-        refusal: 0,
-        board: b,
-    }
-}
-
 // Sets the transport from one resource to another, or refuses: 15, 5 either not on the board, 1 above 2^36.
 pub fn set_transport(board: Board, from: u8, to: u8, ms: u64) -> Entered
     ensures { λ r. ⌜ r ≡ setTransportReply board from to ms ⌝ }
@@ -355,7 +168,7 @@ pub fn set_transport(board: Board, from: u8, to: u8, ms: u64) -> Entered
 pub fn timeline_of(board: Board, number: u8) -> Looked
     ensures { λ r. ⌜ r ≡ timelineOfReply board number ⌝ }
 {
-    let e = entry_for(board, number);
+    let e = matrices::entry_for(board, number);
     if e.refusal != 0 {
         let none = board::blank_timeline();
         return Looked {
@@ -382,7 +195,7 @@ pub fn put_timeline(board: Board, number: u8, timeline: ResourceTimeline) -> Ent
             board: board,
         };
     }
-    let e = entry_for(board, number);
+    let e = matrices::entry_for(board, number);
     if e.refusal != 0 {
         return Entered {
             refusal: e.refusal,
@@ -390,12 +203,12 @@ pub fn put_timeline(board: Board, number: u8, timeline: ResourceTimeline) -> Ent
         };
     }
     let place = e.place;
-    let mut b = board;
-    let mut r = b.resources[place];
+    let mut after = board;
+    let mut r = after.resources[place];
     r.timeline = timeline;
-    b.resources[place] = r;
+    after.resources[place] = r;
     Entered {
         refusal: 0,
-        board: b,
+        board: after,
     }
 }

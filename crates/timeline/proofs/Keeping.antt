@@ -5,6 +5,7 @@ use mathlib.Core.List.{List, [], _∷_, _++_, map}
 use Prim.Native.Nat.{ℕ, zero, suc, _+_, _-_, _^_, _≤_, _<_, max}
 use native.Mathlib.Omega.{arith}
 use lib.ListN.{getD, length, replicate, take, length-map, List·getD-eq-default, List·getD-append}
+use lib.Seq.{take-all, take-suc}
 use lib.Dec.{leb}
 use borrow.Author.Tests.{leb-true, leb-false}
 use Rattle.calendar.specs.declared.Calendar.{Calendar}
@@ -90,15 +91,6 @@ unfolding latestEnds
 latest-length m [] = refl
 latest-length m (b ∷ bs) = ap suc (latest-length (max m (b .end)) bs)
 
-take-next : (bs : List Booking) (n : ℕ) → n < length bs → take (suc n) bs ≡ take n bs ++ (getD bs n none ∷ [])
-take-next [] n l = absurd (omega arith)
-take-next (b ∷ bs) zero l = refl
-take-next (b ∷ bs) (suc n) l = ap {B = List Booking} (λ r. b ∷ r) (take-next bs n (omega arith))
-
-take-whole : (bs : List Booking) → take (length bs) bs ≡ bs
-take-whole [] = refl
-take-whole (b ∷ bs) = ap {B = List Booking} (λ r. b ∷ r) (take-whole bs)
-
 field : (f : Booking → ℕ) (bs : List Booking) (i : ℕ) → f none ≡ 0 → getD (map f bs) i 0 ≡ f (getD bs i none)
 field f [] i e = sym e
 field f (b ∷ bs) zero e = refl
@@ -112,12 +104,12 @@ rows bs (suc n) l =
     let s = cell (starts bs) (64 - length (starts bs)) n ∙ field (λ b. b .start) bs n refl in
     let e = cell (ends bs) (64 - length (ends bs)) n ∙ field (λ b. b .end) bs n refl in
     let u = cell (unitsOf bs) (64 - length (unitsOf bs)) n ∙ field (λ b. b .units) bs n refl in
-    rw (rows bs n (omega arith), s, e, u) (sym (take-next bs n l))
+    rw (rows bs n (omega arith), s, e, u) (sym (take-suc bs n none l))
 
 -- the bookings of the diary are the list
 pub bookings-diary : (capacity : ℕ) (c : Calendar) (bs : List Booking) → bookings (diary capacity c bs) ≡ bs
 unfolding diary
-bookings-diary capacity c bs = rows bs (length bs) (omega arith) ∙ take-whole bs
+bookings-diary capacity c bs = rows bs (length bs) (omega arith) ∙ take-all (length bs) bs (omega arith)
 
 pub diary-keeps : (capacity : ℕ) (c : Calendar) (bs : List Booking) → calendar.valid c ≡ true → 1 ≤ capacity → capacity < 2 ^ 31 → length bs ≤ 64 → InOrder 0 bs → valid (diary capacity c bs) ≡ true
 unfolding diary

@@ -1,6 +1,5 @@
 -- Laws on plain values, for the proofs of this crate and of those above it.
 pub mod Rules
-pub mod Shift
 pub mod Rows
 pub mod Loading
 pub mod Columns

@@ -16,9 +16,9 @@ use Rattle.timeline.specs.declared.ResourceTimeline.{ResourceTimeline}
 use Rattle.timeline.specs.Bookings.{Booking, bookingAt, bookingsTo, bookings, total}
 use Rattle.timeline.specs.Valid.{before, valid}
 use Rattle.timeline.specs.Book.{insertBooking, cells, latestEnds, diary}
-use Rattle.timeline.specs.Steps.{Place, Opened, Latest}
+use Rattle.columns.specs.Steps.{Place, Opened, Latest}
 use Rattle.timeline.proofs.Rules.{Rules, CellOf, ruled}
-use Rattle.timeline.proofs.Shift.{before-pos}
+use Rattle.columns.proofs.Shift.{before-pos}
 
 abbrev pub none : Booking
 none = record { start = 0; end = 0; units = 0 }

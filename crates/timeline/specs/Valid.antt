@@ -2,17 +2,12 @@
 -- booked total, and 0 in every cell past the length.
 use Prim.Native.Nat.{ℕ, zero, suc, _-_, _^_, max}
 use mathlib.Core.Bool.{Bool, true, _&&_}
-use mathlib.Core.List.{List}
 use lib.ListN.{getD}
 use lib.Dec.{leb, ltb, eqb}
 use Rattle.timeline.specs.declared.ResourceTimeline.{ResourceTimeline}
 use Rattle.timeline.specs.Bookings.{bookings, total}
 use Rattle.calendar.specs.Valid as calendar
-
--- the cell before cell i, 0 before the first
-unfoldable pub before : List ℕ → ℕ → ℕ
-before xs zero = 0
-before xs (suc i) = getD xs i 0
+unfoldable pub use Rattle.columns.specs.Steps.{before}
 
 -- a filled cell: start, end, units and latest end, after a cell with start ps and latest end pl
 unfoldable pub cellRight : ℕ → ℕ → ℕ → ℕ → ℕ → ℕ → Bool

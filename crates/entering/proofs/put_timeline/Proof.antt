@@ -3,8 +3,9 @@ use borrow.Author.Needs.{needs}
 use borrow.Author.Tests.{not-true, not-false}
 use mathlib.Core.Path.{sym, _∙_}
 use native.Mathlib.Omega.{arith}
-use Rattle.entering.proofs.Entering.{found-below}
-use Rattle.entering.proofs.Replying.{entry-at, put-wrong, put-refused, put-taken}
+use Rattle.matrices.proofs.Finding.{found-below}
+use Rattle.matrices.proofs.Replying.{entry-at}
+use Rattle.entering.proofs.Replying.{put-wrong, put-refused, put-taken}
 use Rattle.entering.proofs.put_timeline.Statement.{statement}
 use Rattle.entering.proofs.put_timeline.Tie as tie
 

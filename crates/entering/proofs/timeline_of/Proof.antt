@@ -1,8 +1,9 @@
 -- `entering::timeline_of` meets its contract.
 use borrow.Author.Needs.{needs}
 use native.Mathlib.Omega.{arith}
-use Rattle.entering.proofs.Entering.{found-below}
-use Rattle.entering.proofs.Replying.{entry-at, looked-refused, looked-taken}
+use Rattle.matrices.proofs.Finding.{found-below}
+use Rattle.matrices.proofs.Replying.{entry-at}
+use Rattle.entering.proofs.Replying.{looked-refused, looked-taken}
 use Rattle.entering.proofs.timeline_of.Statement.{statement}
 use Rattle.entering.proofs.timeline_of.Tie as tie
 

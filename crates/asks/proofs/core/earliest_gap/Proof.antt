@@ -5,7 +5,7 @@ use mathlib.Core.Logic.{⊎-elim}
 use Prim.Native.Nat.{_-_, _≤_}
 use native.Mathlib.Omega.{arith}
 use Rattle.timeline.proofs.Rules.{rules}
-use Rattle.timeline.proofs.Shift.{before-pos, before-zero}
+use Rattle.columns.proofs.Shift.{before-pos, before-zero}
 use Rattle.asks.proofs.Gaps.{Walk, walk-start, walk-step, walk-end, walk-stop, plain}
 use Rattle.asks.proofs.core.earliest_gap.Statement.{statement}
 use Rattle.asks.proofs.core.earliest_gap.Tie as tie

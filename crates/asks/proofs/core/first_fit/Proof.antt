@@ -46,7 +46,7 @@ array-read-at c = search needs
 add-interval-fits : tie.Need-add-interval-fits Inv-loop μ-loop
 add-interval-fits c =
     let q = c .before .before .before .before .before .before .before .before .before .before .before .pre in
-    let r = candidate-range _ (q .0) _ _ _ (c .before .before .before .start-candidates .ensures) (q .1) _ (c .loop-test .taken) in
+    let r = candidate-range _ (q .0) _ _ _ _ (c .before .before .before .start-candidates .ensures) (q .1) _ (c .loop-test .taken) in
     search needs
 
 interval-fits-requires : tie.Need-interval-fits-requires Inv-loop μ-loop
@@ -55,7 +55,7 @@ interval-fits-requires c κs = rules _ (c .before .before .before .before .befor
 add-free-over : tie.Need-add-free-over Inv-loop μ-loop
 add-free-over c =
     let q = c .before .before .before .before .before .before .before .before .before .before .before .before .before .before .before .before .before .pre in
-    let r = candidate-range _ (q .0) _ _ _ (c .before .before .before .before .before .before .before .before .before .start-candidates .ensures) (q .1) _ (c .before .before .before .before .before .before .loop-test .taken) in
+    let r = candidate-range _ (q .0) _ _ _ _ (c .before .before .before .before .before .before .before .before .before .start-candidates .ensures) (q .1) _ (c .before .before .before .before .before .before .loop-test .taken) in
     search needs
 
 free-over-requires : tie.Need-free-over-requires Inv-loop μ-loop
@@ -66,7 +66,7 @@ unfolding startOf
 returns c =
     let d = c .before .before .before .before .before .before .before .before .before .before .before .before .before .before .before .before .before .before .before in
     let e : d .args .units + (d .args .t .capacity - d .args .units) ≡ d .args .t .capacity = omega (arith, d .pre .3) in
-    sym (fit-listed _ (d .pre .0) _ _ _ (c .before .before .before .before .before .before .before .before .before .before .before .start-candidates .ensures) (d .pre .1) _ _ _ e _ (c .before .before .before .before .before .before .before .before .loop-test .taken) (c .before .before .before .before .before .before .before .before .before .loop .inv .3)
+    sym (fit-listed _ (d .pre .0) _ _ _ _ (c .before .before .before .before .before .before .before .before .before .before .before .start-candidates .ensures) (d .pre .1) _ _ _ e _ (c .before .before .before .before .before .before .before .before .loop-test .taken) (c .before .before .before .before .before .before .before .before .before .loop .inv .3)
     (over-yes _ _ _ _ _ (sym (c .before .before .before .before .before .before .before .interval-fits .ensures) ∙ c .before .before .before .before .before .before .if1 .taken) (sym (c .before .free-over .ensures) ∙ c .if2 .taken)))
 
 add-i : tie.Need-add-i Inv-loop μ-loop
@@ -91,7 +91,7 @@ returns-2 c =
     let d = c .before .before .before .before .before .before .before .before .before .before .before in
     let v = c .before .loop .inv in
     let e : d .args .units + (d .args .t .capacity - d .args .units) ≡ d .args .t .capacity = omega (arith, d .pre .3) in
-    sym (fit-unlisted _ (d .pre .0) _ _ _ (c .before .before .before .start-candidates .ensures) (d .pre .1) _ _ _ e (λ k h. v .3 k (omega arith)))
+    sym (fit-unlisted _ (d .pre .0) _ _ _ _ (c .before .before .before .start-candidates .ensures) (d .pre .1) _ _ _ e (λ k h. v .3 k (omega arith)))
 
 pub first-fit-spec : {M : Type 1} → statement M
 first-fit-spec =

@@ -58,7 +58,7 @@ work-end-requires c κs =
     let q = c .before .before .before .before .before .before .before .before .before .before .before .before .before .before .pre in
     let v = c .before .before .loop .inv in
     let w = c .before .before .before .before .before .before .before .working-time .ensures in
-    let r = candidate-range _ (q .0) _ _ _ (c .before .before .before .before .start-candidates .ensures) (q .1) _ (c .before .loop-test .taken) in
+    let r = candidate-range _ (q .0) _ _ _ _ (c .before .before .before .before .start-candidates .ensures) (q .1) _ (c .before .loop-test .taken) in
     ((omega (arith, w .0), omega (arith, w .0), omega arith, omega (arith, q .2)), w .1 .edges)
 
 enum-known-end : tie.Need-enum-known-end Inv-loop μ-loop
@@ -72,7 +72,7 @@ unfolding foundOf
 returns c =
     let d = c .before .before .before .before .before .before .before .before .before .before .before .before .before .before .before .before .before .before .before .before .before .before .before .before in
     let e : d .args .units + (d .args .t .capacity - d .args .units) ≡ d .args .t .capacity = omega (arith, d .pre .3) in
-    start-listed _ (d .pre .0) _ _ _ (c .before .before .before .before .before .before .before .before .before .before .before .before .before .before .start-candidates .ensures) (d .pre .1) _ _ _ e _ _ (c .before .before .before .before .before .before .before .before .before .before .before .before .before .before .before .before .before .working-time .ensures .1) _ _ (c .before .before .before .before .before .before .before .before .before .before .before .loop-test .taken) (c .before .before .before .before .before .before .before .before .before .before .before .before .loop .inv .4)
+    start-listed _ (d .pre .0) _ _ _ _ (c .before .before .before .before .before .before .before .before .before .before .before .before .before .before .start-candidates .ensures) (d .pre .1) _ _ _ e _ _ (c .before .before .before .before .before .before .before .before .before .before .before .before .before .before .before .before .before .working-time .ensures .1) _ _ (c .before .before .before .before .before .before .before .before .before .before .before .loop-test .taken) (c .before .before .before .before .before .before .before .before .before .before .before .before .loop .inv .4)
     (sym (c .before .before .before .before .before .before .before .before .before .work-end .ensures) ∙ ap foundOf (c .before .before .before .before .before .before .before .end .given .1)) (sym (c .before .free-over .ensures) ∙ c .if1 .taken)
 
 enum-told : tie.Need-enum-told Inv-loop μ-loop
@@ -105,7 +105,7 @@ returns-2 c =
     let d = c .before .before .before .before .before .before .before .before .before .before .before .before .before in
     let v = c .before .loop .inv in
     let e : d .args .units + (d .args .t .capacity - d .args .units) ≡ d .args .t .capacity = omega (arith, d .pre .3) in
-    start-unlisted _ (d .pre .0) _ _ _ (c .before .before .before .start-candidates .ensures) (d .pre .1) _ _ _ e _ _ (c .before .before .before .before .before .before .working-time .ensures .1) (λ k h. v .4 k (omega arith))
+    start-unlisted _ (d .pre .0) _ _ _ _ (c .before .before .before .start-candidates .ensures) (d .pre .1) _ _ _ e _ _ (c .before .before .before .before .before .before .working-time .ensures .1) (λ k h. v .4 k (omega arith))
 
 pub first-resumable-spec : {M : Type 1} → statement M
 first-resumable-spec =

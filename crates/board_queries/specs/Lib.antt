@@ -1,0 +1,2 @@
+-- What the asks of the runs beside the Rust answer.
+pub mod Asks

@@ -1,0 +1,2 @@
+-- Laws of the lists of candidates.
+pub mod Listing

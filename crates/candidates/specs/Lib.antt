@@ -1,0 +1,2 @@
+-- What the candidates of a diary are.
+pub mod Steps

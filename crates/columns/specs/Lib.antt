@@ -1,0 +1,2 @@
+-- What the functions on columns answer.
+pub mod Steps
