@@ -1,0 +1,22 @@
+-- `spoilt_runs::same::same_row` meets its contract: a row has four words.
+use borrow.Author.Needs.{needs}
+use native.Mathlib.Omega.{arith}
+use Rattle.spoilt_runs.proofs.same.same_row.Statement.{statement}
+use Rattle.spoilt_runs.proofs.same.same_row.Tie as tie
+
+slice-aggregate-same-words : tie.Need-slice-aggregate-same-words
+slice-aggregate-same-words c = search needs
+
+slice-aggregate-same-words-2 : tie.Need-slice-aggregate-same-words-2
+slice-aggregate-same-words-2 c = search needs
+
+same-words-requires : tie.Need-same-words-requires
+same-words-requires c κs = search needs
+
+returns : tie.Need-returns
+returns c = λ e j l. c .same-words .ensures e j (omega arith)
+
+pub same-row-spec : {M : Type 1} → statement M
+same-row-spec =
+    tie.close
+    (tie.spec slice-aggregate-same-words slice-aggregate-same-words-2 same-words-requires returns)

@@ -1,0 +1,256 @@
+// Whether two slates or two boards are the same, cell by cell.
+use board::Board;
+use board::LastCategory;
+use board::Resource;
+use board::TransitionMatrix;
+use calendar::Calendar;
+use calendar::TimeWindows;
+use timeline::ResourceTimeline;
+ghost use mathlib.Core.Path.{_≡_};
+ghost use mathlib.Core.Bool.{true};
+ghost use mathlib.Core.List.{[]};
+ghost use Prim.Native.Nat.{ℕ, _≤_, _<_};
+ghost use lib.ListN.{length, getD};
+
+// All words of two runs, which have one length.
+fn same_words(a: &[u64], b: &[u64]) -> bool
+    ensures { λ r. ⌜ (r ≡ true → (k : ℕ) → k < length (now (a .entry)) → getD (now (a .entry)) k 0 ≡ getD (now (b .entry)) k 0) ⌝ }
+{
+    let n = a.len();
+    if b.len() != n {
+        return false;
+    }
+    let mut i: usize = 0;
+    while i < n {
+        if a[i] != b[i] {
+            return false;
+        }
+        i += 1;
+    }
+    true
+}
+
+fn same_row(a: [u64; 4], b: [u64; 4]) -> bool
+    ensures { λ r. ⌜ (r ≡ true → (j : ℕ) → j < 4 → getD a j 0 ≡ getD b j 0) ⌝ }
+{
+    same_words(&a, &b)
+}
+
+// The rows from `from` on.
+pub fn same_rows(a: &[[u64; 4]; 32], b: &[[u64; 4]; 32], from: usize) -> bool
+    ensures { λ r. ⌜ (r ≡ true → (k j : ℕ) → from ≤ k → k < 32 → j < 4 → getD (getD (now (a .entry)) k []) j 0 ≡ getD (getD (now (b .entry)) k []) j 0) ⌝ }
+{
+    let mut i = from;
+    while i < 32 {
+        let x = a[i];
+        let y = b[i];
+        if !same_row(x, y) {
+            return false;
+        }
+        i += 1;
+    }
+    true
+}
+
+fn same_units(a: &[u32; 64], b: &[u32; 64]) -> bool
+    ensures { λ r. ⌜ (r ≡ true → (k : ℕ) → k < 64 → getD (now (a .entry)) k 0 ≡ getD (now (b .entry)) k 0) ⌝ }
+{
+    let mut i: usize = 0;
+    while i < 64 {
+        if a[i] != b[i] {
+            return false;
+        }
+        i += 1;
+    }
+    true
+}
+
+fn same_companions(a: &[u8; 4], b: &[u8; 4]) -> bool
+    ensures { λ r. ⌜ (r ≡ true → (k : ℕ) → k < 4 → getD (now (a .entry)) k 0 ≡ getD (now (b .entry)) k 0) ⌝ }
+{
+    let mut i: usize = 0;
+    while i < 4 {
+        if a[i] != b[i] {
+            return false;
+        }
+        i += 1;
+    }
+    true
+}
+
+fn same_transitions(a: &[i64; 256], b: &[i64; 256]) -> bool {
+    let mut i: usize = 0;
+    while i < 256 {
+        if a[i] != b[i] {
+            return false;
+        }
+        i += 1;
+    }
+    true
+}
+
+fn same_initials(a: &[i64; 16], b: &[i64; 16]) -> bool {
+    let mut i: usize = 0;
+    while i < 16 {
+        if a[i] != b[i] {
+            return false;
+        }
+        i += 1;
+    }
+    true
+}
+
+fn same_spans(a: TimeWindows, b: TimeWindows) -> bool {
+    if a.len != b.len {
+        return false;
+    }
+    let s = a.starts;
+    let t = b.starts;
+    if !same_words(&s, &t) {
+        return false;
+    }
+    let e = a.ends;
+    let f = b.ends;
+    same_words(&e, &f)
+}
+
+fn same_calendar(a: Calendar, b: Calendar) -> bool {
+    if !same_spans(a.windows, b.windows) {
+        return false;
+    }
+    same_spans(a.blocks, b.blocks)
+}
+
+fn same_bookings(a: ResourceTimeline, b: ResourceTimeline) -> bool {
+    let s = a.starts;
+    let t = b.starts;
+    if !same_words(&s, &t) {
+        return false;
+    }
+    let e = a.ends;
+    let f = b.ends;
+    same_words(&e, &f)
+}
+
+fn same_latest(a: &[u64; 64], b: &[u64; 64]) -> bool {
+    same_words(a, b)
+}
+
+fn same_amounts(a: ResourceTimeline, b: ResourceTimeline) -> bool {
+    let l = a.latest;
+    let m = b.latest;
+    if !same_latest(&l, &m) {
+        return false;
+    }
+    let u = a.units;
+    let v = b.units;
+    same_units(&u, &v)
+}
+
+fn same_diary(a: ResourceTimeline, b: ResourceTimeline) -> bool {
+    if a.capacity != b.capacity {
+        return false;
+    }
+    if a.len != b.len {
+        return false;
+    }
+    if a.booked != b.booked {
+        return false;
+    }
+    if !same_calendar(a.calendar, b.calendar) {
+        return false;
+    }
+    if !same_bookings(a, b) {
+        return false;
+    }
+    same_amounts(a, b)
+}
+
+fn same_matrix(a: TransitionMatrix, b: TransitionMatrix) -> bool {
+    if a.present != b.present {
+        return false;
+    }
+    if a.default != b.default {
+        return false;
+    }
+    if a.initial != b.initial {
+        return false;
+    }
+    let s = a.transitions;
+    let t = b.transitions;
+    if !same_transitions(&s, &t) {
+        return false;
+    }
+    let i = a.initials;
+    let j = b.initials;
+    same_initials(&i, &j)
+}
+
+fn same_last(a: LastCategory, b: LastCategory) -> bool {
+    match a {
+        LastCategory::Nothing => match b {
+            LastCategory::Nothing => true,
+            LastCategory::Category(d) => false,
+        },
+        LastCategory::Category(c) => match b {
+            LastCategory::Nothing => false,
+            LastCategory::Category(d) => c == d,
+        },
+    }
+}
+
+fn same_resource(a: Resource, b: Resource) -> bool {
+    if a.number != b.number {
+        return false;
+    }
+    if a.kind != b.kind {
+        return false;
+    }
+    if a.skills != b.skills {
+        return false;
+    }
+    if a.count != b.count {
+        return false;
+    }
+    let c = a.companions;
+    let d = b.companions;
+    if !same_companions(&c, &d) {
+        return false;
+    }
+    let l = a.last;
+    let m = b.last;
+    if !same_last(l, m) {
+        return false;
+    }
+    if !same_matrix(a.matrix, b.matrix) {
+        return false;
+    }
+    same_diary(a.timeline, b.timeline)
+}
+
+fn same_resources(a: [Resource; 16], b: [Resource; 16]) -> bool {
+    let mut i: usize = 0;
+    while i < 16 {
+        let r = a[i];
+        let s = b[i];
+        if !same_resource(r, s) {
+            return false;
+        }
+        i += 1;
+    }
+    true
+}
+
+pub fn same_board(a: Board, b: Board) -> bool {
+    if a.len != b.len {
+        return false;
+    }
+    let t = a.transport;
+    let u = b.transport;
+    if !same_words(&t, &u) {
+        return false;
+    }
+    let r = a.resources;
+    let s = b.resources;
+    same_resources(r, s)
+}
