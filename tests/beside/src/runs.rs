@@ -129,6 +129,9 @@ pub fn run(plan: &Plan, only: Option<Known>, seed: u64, programs: &Path) -> bool
             let random = Random(seed ^ (family as u64 + 1) << 56 ^ n << 16);
             run.stream(n, random, cases);
             n += 1;
+            if n % 20_000 == 0 {
+                println!("{n} streams, {} asks or placings, {} differences so far", run.asked(), run.differences);
+            }
         }
         println!("{known:?} streams ({:.1} s):", began.elapsed().as_secs_f64());
         run.print();
