@@ -7,9 +7,9 @@ use native.Mathlib.Omega.{arith}
 use lib.Dec.{leb, ltb}
 use lib.ListN.{getD, length, take}
 use lib.Seq.{getD-take}
-use borrow.Author.Tests.{lt-ltb, le-ltb, le-leb, lt-leb, leb-true, ltb-false}
+use borrow.Author.Tests.{lt-ltb, le-ltb, le-leb, lt-leb, leb-true, ltb-false, not-false}
 use Rattle.calendar.specs.Valid.{valid}
-use Rattle.calendar.specs.Basics.{and-split, and-join, and-false}
+use Rattle.calendar.specs.Basics.{and-split, and-join, and-false, unrefused}
 use Rattle.activity.specs.declared.ActivityDuration.{ActivityDuration}
 use Rattle.activity.specs.declared.ResourceTiming.{ResourceTiming}
 use Rattle.activity.specs.declared.ResourceTiming.the-variants.{Nothing, Speed, Duration}
@@ -82,19 +82,10 @@ module _ (a : Activity) (ready : ℕ) where
           unfolding activityRefusal
           not-refused u e = sym (rw (le-ltb 15 (a .category) g, t, le-ltb 4 (a .len) l, q, u, e) refl)
 
--- a refusal's number where the test holds, and 0 only where it does not and the rest is 0
-no-refusal : (b : Bool) (n rest : ℕ) → cond b (suc n) rest ≡ 0 → (b ≡ false) × (rest ≡ 0)
-no-refusal true n rest e = absurd (omega arith)
-no-refusal false n rest e = (refl, e)
-
 neither : (a b : Bool) → a || not b ≡ false → (a ≡ false) × (b ≡ true)
 neither true b e = (e, absurd (let z : _≡_ {A = ℕ} 0 1 = cc in omega arith))
 neither false true e = (refl, refl)
 neither false false e = (refl, sym e)
-
-holding : (b : Bool) → not b ≡ false → b ≡ true
-holding true e = refl
-holding false e = sym e
 
 pub short-says : (d : ActivityDuration) → short d ≡ true → Short d
 unfolding short
@@ -148,13 +139,13 @@ module _ (a : Activity) (ready : ℕ) (e : activityRefusal a ready ≡ 0) where
       let c3 : ℕ = cond (not (every usageRight (requirementsOf a))) 3 c8 in
       let c6 : ℕ = cond (ltb 4 (a .len) || not (quantitiesRight (requirementsOf a))) 6 c3 in
       let c1 : ℕ = cond (not (timesRight a ready)) 1 c6 in
-      let p5 = no-refusal (ltb 15 (a .category)) 4 c1 e in
-      let p1 = no-refusal (not (timesRight a ready)) 0 c6 (p5 .1) in
-      let p6 = no-refusal (ltb 4 (a .len) || not (quantitiesRight (requirementsOf a))) 5 c3 (p1 .1) in
-      let p3 = no-refusal (not (every usageRight (requirementsOf a))) 2 c8 (p6 .1) in
-      let p8 = no-refusal (not (allSpeeds a)) 7 0 (p3 .1) in
+      let p5 = unrefused (ltb 15 (a .category)) 4 c1 e in
+      let p1 = unrefused (not (timesRight a ready)) 0 c6 (p5 .1) in
+      let p6 = unrefused (ltb 4 (a .len) || not (quantitiesRight (requirementsOf a))) 5 c3 (p1 .1) in
+      let p3 = unrefused (not (every usageRight (requirementsOf a))) 2 c8 (p6 .1) in
+      let p8 = unrefused (not (allSpeeds a)) 7 0 (p3 .1) in
       let n6 = neither (ltb 4 (a .len)) (quantitiesRight (requirementsOf a)) (p6 .0) in
-      record { category = p5 .0; times = holding (timesRight a ready) (p1 .0); few = n6 .0; quantities = n6 .1; usages = holding (every usageRight (requirementsOf a)) (p3 .0); speeds = holding (allSpeeds a) (p8 .0) }
+      record { category = p5 .0; times = not-false (timesRight a ready) (p1 .0); few = n6 .0; quantities = n6 .1; usages = not-false (every usageRight (requirementsOf a)) (p3 .0); speeds = not-false (allSpeeds a) (p8 .0) }
 
   pub accepted : Accepted a ready
   unfolding timesRight quantitiesRight
@@ -186,8 +177,8 @@ lawful-order a ready e = accepted a ready e .lawful
 pub check-passed : (a : Activity) (ready : ℕ) → checkReply a ready ≡ 0 → (valid (a .calendar) ≡ true) × (activityRefusal a ready ≡ 0)
 unfolding checkReply
 check-passed a ready e =
-    let p = no-refusal (not (valid (a .calendar))) 14 (activityRefusal a ready) e in
-    (holding (valid (a .calendar)) (p .0), p .1)
+    let p = unrefused (not (valid (a .calendar))) 14 (activityRefusal a ready) e in
+    (not-false (valid (a .calendar)) (p .0), p .1)
 
 -- The other way round: an order that keeps every range is not refused.
 short-is : (d : ActivityDuration) → Short d → short d ≡ true

@@ -25,16 +25,16 @@ use Rattle.activity.specs.declared.timing.Fixed.the-variants.{Unset, Own
 use Rattle.activity.specs.declared.ResourceRequirement.{ResourceRequirement}
 use Rattle.activity.specs.declared.Release.{Release}
 use Rattle.activity.specs.declared.Release.the-variants.{Absent, At}
-use Rattle.activity.specs.Speeds.{one, isSpeed, halfUp, roundAway, processAt, Near, Within}
+use Rattle.speeds.specs.Speeds.{one, isSpeed, halfUp, roundAway, processAt, Near, Within}
 use Rattle.activity.specs.Durations.{timingOf, heldTimings, total, greater, greatest, product, settled, durationOn}
 use Rattle.activity.specs.Serving.{bit, covers, candidate, serves}
 use Rattle.activity.specs.Ready.{readyOf}
 use Rattle.activity.specs.Check.{releaseRight}
 use Rattle.activity.specs.Lawful.{LawfulFixed, Lawful}
-use Rattle.activity.proofs.Rounding.{away-of-value, half-up-whole, half-up-same}
-use Rattle.activity.proofs.Bounds.{within-positive, within-more, speed-within, one-within, div-at, whole-value, num-pos, positive-plain}
-use Rattle.activity.proofs.Nearness.{eq-one, process-near, process-le}
-use Rattle.activity.proofs.Identity.{one-times}
+use Rattle.speeds.proofs.Rounding.{away-of-value, half-up-whole, half-up-same}
+use Rattle.speeds.proofs.Bounds.{within-positive, within-more, speed-within, one-within, div-at, whole-value, num-pos, positive-plain}
+use Rattle.speeds.proofs.Nearness.{eq-one, process-near, process-le}
+use Rattle.speeds.proofs.Identity.{one-times}
 use Rattle.activity.proofs.Holding.{product-within, greatest-lawful}
 
 -- Rounding: what `half-up-bounds` says of `halfUp a c` is true of no other r.

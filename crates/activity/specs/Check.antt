@@ -14,7 +14,7 @@ use Rattle.activity.specs.declared.Release.the-variants.{Absent, At}
 use Rattle.activity.specs.declared.Activity.{Activity}
 use Rattle.activity.specs.declared.DurationAnswer.{DurationAnswer}
 use Rattle.activity.specs.declared.DurationAnswer.the-variants.{Lasts, Refused}
-use Rattle.activity.specs.Speeds.{isSpeed}
+use Rattle.speeds.specs.Speeds.{isSpeed}
 use Rattle.activity.specs.Durations.{durationOn}
 
 unfoldable pub every : {A : Type 0} → (A → Bool) → List A → Bool

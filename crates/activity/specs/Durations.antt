@@ -11,7 +11,7 @@ use Rattle.activity.specs.declared.ResourceTiming.the-variants.{Nothing,
 use Rattle.activity.specs.declared.Timed.{Timed}
 use Rattle.activity.specs.declared.timing.Fixed.{Fixed}
 use Rattle.activity.specs.declared.timing.Fixed.the-variants.{Unset, Own}
-use Rattle.activity.specs.Speeds.{one, processAt}
+use Rattle.speeds.specs.Speeds.{one, processAt}
 
 -- what stands past the end of a list of timings
 abbrev pub untimed : Timed

@@ -9,7 +9,7 @@ use Rattle.activity.specs.declared.ResourceTiming.the-variants.{Nothing,
 use Rattle.activity.specs.declared.Timed.{Timed}
 use Rattle.activity.specs.declared.timing.Fixed.{Fixed}
 use Rattle.activity.specs.declared.timing.Fixed.the-variants.{Unset, Own}
-use Rattle.activity.specs.Speeds.{isSpeed}
+use Rattle.speeds.specs.Speeds.{isSpeed}
 use Rattle.activity.specs.Durations.{timingOf}
 
 -- each of the three is at most 2 ^ 36

@@ -1,6 +1,5 @@
--- Document 01 on an order: 'Durations, setups, transport' up to speeds, the orders of 'Placing', and the checks of an order in the
+-- Document 01 on an order: durations of 'Durations, setups, transport' (speeds are a crate of their own), the orders of 'Placing', and the checks of an order in the
 -- replies of 'Placing'; then what the functions behind the checks may take for granted, and runs.
-pub mod Speeds
 pub mod Durations
 pub mod Serving
 pub mod Ready

@@ -12,7 +12,7 @@ use Rattle.activity.specs.declared.ResourceTiming.the-variants.{Speed, D
 use Rattle.activity.specs.declared.Timed.{Timed}
 use Rattle.activity.specs.declared.Release.the-variants.{Absent}
 use Rattle.activity.specs.declared.Activity.{Activity}
-use Rattle.activity.specs.Speeds.{one, quarter, four, halfUp, roundAway, processAt, isSpeed}
+use Rattle.speeds.specs.Speeds.{one, quarter, four, halfUp, roundAway, processAt, isSpeed}
 use Rattle.activity.specs.Durations.{untimed, greatest, product, durationOn}
 use Rattle.activity.specs.Serving.{bit, covers, candidate, serves}
 use Rattle.activity.specs.Check.{every, releaseRight, short, quantity, quantitiesRight, usageRight, timesRight, activityRefusal}

@@ -2,4 +2,3 @@
 mod Planning
 pub mod Knowing
 pub mod Seating
-pub mod Single

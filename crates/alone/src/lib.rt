@@ -47,7 +47,7 @@ fn alone_on(r: Resource, base: ActivityDuration, timings: [Timed; 16], category:
     let d = activity::core::duration_on(base, timings, [r.number; 8], 1);
     let matrix = r.matrix;
     let last = r.last;
-    let setup = board::core::setup_ms(matrix, last, category, d.setup);
+    let setup = setups::setup_ms(matrix, last, category, d.setup);
     Lasting {
         span: setup + d.process + d.teardown,
         process: d.process,
@@ -74,7 +74,7 @@ pub fn plan_of(b: Board, a: Activity, ready: u64) -> Plan
         let x = alone_on(r, base, timings, a.category);
         spans[i] = x.span;
         processes[i] = x.process;
-        arrivals[i] = ready + board::core::transport_between(&transport, a.origins, r.number);
+        arrivals[i] = ready + setups::transport_between(&transport, a.origins, r.number);
         numbers[i] = r.number;
         kinds[i] = r.kind;
         skills[i] = r.skills;

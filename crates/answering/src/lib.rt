@@ -23,15 +23,9 @@ pub struct Table {
     pub starts: [u64; 64],
 }
 
-// The later of two instants.
-pub fn later(a: u64, b: u64) -> u64
-    ensures { λ r. ⌜ r ≡ max a b ⌝ }
-{
-    if a < b { b } else { a }
-}
-
+// Nothing is known yet: no instant lies between 1 and 0.
 pub fn nothing_asked() -> Table
-    ensures { λ r. ⌜ (r .asked ≡ replicate 64 1) × (r .starts ≡ replicate 64 0) ⌝ }
+    ensures { λ r. ⌜ r ≡ record { instant = 0; asked = replicate 64 1; starts = replicate 64 0 } ⌝ }
 {
     Table {
         instant: 0,
@@ -89,7 +83,7 @@ pub fn answered(b: Board, a: Activity, p: Plan, places: [usize; 16], t: u64, tab
                     let fourth = b.resources[m.places[3]];
                     let fifth = b.resources[m.places[4]];
                     let g = alone::group_of(r, second, third, fourth, fifth, q.usage);
-                    let from = later(t, p.arrivals[i]);
+                    let from = asks::core::later(t, p.arrivals[i]);
                     s = alone::with_companions(g, m.right, a.resumable, p.spans[i], from);
                 }
                 next = noted(next, 16 * j + i, t, s);

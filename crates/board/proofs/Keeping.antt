@@ -9,6 +9,7 @@ use lib.ListN.{length, getD, getD-replicate}
 use lib.Seq.{getD-set-same, getD-set-other}
 use Rattle.calendar.specs.Basics.{and-split, same-or-not, or-true}
 use Rattle.calendar.specs.Search.{Found, nothing, at, leastFrom}
+use Rattle.calendar.specs.Meaning.{least-same}
 use Rattle.board.specs.Enter.{blankResource, emptyBoard, withResource, changed}
 use Rattle.board.specs.Resources.{noResource, resourceAt, numberAt, lookupTo, lookup, isAt, onBoard}
 use Rattle.board.specs.Valid.{everyFrom, isZero, matrixRight, companionsRight, resourceRight, calendarBlank, diaryBlank, lastBlank, resourceBlank, transportCell, transportRight, valid}
@@ -19,18 +20,6 @@ use Rattle.board.proofs.Seeing.{lookup-below}
 use Rattle.calendar.specs.Add.{empty}
 use Rattle.calendar.specs.Valid as calendar
 use Rattle.timeline.specs.Valid as timeline
-
-same-step : (from : ℕ) (p q : Bool) (x y : Found) → p ≡ q → x ≡ y → _≡_ {A = Found} (elim p [ true ↦ at from | false ↦ x ]) (elim q [ true ↦ at from | false ↦ y ])
-same-step from true true x y e g = refl
-same-step from true false x y e g = absurd (true≢false e)
-same-step from false true x y e g = absurd (true≢false (sym e))
-same-step from false false x y e g = g
-
-least-same : (P Q : ℕ → Bool) (from n : ℕ) → ((x : ℕ) → from ≤ x → x < from + n → P x ≡ Q x) → leastFrom P from n ≡ leastFrom Q from n
-unfolding leastFrom
-least-same P Q from zero f = refl
-least-same P Q from (suc n) f =
-    same-step from (P from) (Q from) _ _ (f from (omega arith) (omega arith)) (least-same P Q (suc from) n (λ x l m. f x (omega arith) (omega arith)))
 
 -- two boards with the same numbers
 pub lookup-same : (b c : Board) (n number : ℕ) → ((k : ℕ) → k < n → numberAt c k ≡ numberAt b k) → lookupTo c n number ≡ lookupTo b n number

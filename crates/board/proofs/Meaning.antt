@@ -28,13 +28,6 @@ use lib.Seq.{getD-take, length-take-le}
 use Rattle.calendar.specs.Meaning.{Least, least-none, least-is}
 use Rattle.timeline.specs.Valid as timeline
 
--- the resources as a list and as an array
-pub resources-at : (b : Board) (i : ℕ) → i < b .len → getD (resourcesOf b) i noResource ≡ resourceAt b i
-resources-at b i l = getD-take (b .len) (b .resources) i noResource l
-
-pub resources-length : (b : Board) → length (b .resources) ≡ 16 → valid b ≡ true → length (resourcesOf b) ≡ b .len
-resources-length b e v = length-take-le (b .len) (b .resources) (omega (arith, rules b v .few))
-
 -- on a valid board a resource stands where its number is looked up
 pub lookup-is : (b : Board) → valid b ≡ true → (i : ℕ) → i < b .len → lookup b (numberAt b i) ≡ at i
 unfolding lookupTo
@@ -50,12 +43,6 @@ lookup-is b v i l =
 -- .. and what is looked up is on the board and has the number
 pub lookup-means : (b : Board) (number i : ℕ) → lookup b number ≡ at i → (i < b .len) × (numberAt b i ≡ number)
 lookup-means b number i e = (lookup-below b (b .len) number i e, lookup-number b (b .len) number i e)
-
--- no number twice
-pub distinct : (b : Board) → valid b ≡ true → (i j : ℕ) → i < b .len → j < b .len → numberAt b i ≡ numberAt b j → i ≡ j
-distinct b v i j l m e =
-    let z : at i ≡ at j = sym (lookup-is b v i l) ∙ rw e (lookup-is b v j m) in
-    cc
 
 -- what the rules say of a resource
 pub record ResourceRules (r : Resource) : Type 0 where

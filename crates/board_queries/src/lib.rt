@@ -102,7 +102,7 @@ fn setup(board: Board, number: u8, last: u8, category: u8, own: u64) -> Answer
     let r = board.resources[i];
     let m = r.matrix;
     let before = last_of(last);
-    let ms = board::core::setup_ms(m, before, category, own);
+    let ms = setups::setup_ms(m, before, category, own);
     Answer::Setup(ms)
 }
 
@@ -115,7 +115,7 @@ fn transport(board: Board, origins: u16, to: u8) -> Answer
         return Answer::Refused(p.refusal);
     }
     let cells = board.transport;
-    let ms = board::core::transport_between(&cells, origins, to);
+    let ms = setups::transport_between(&cells, origins, to);
     Answer::Transport(ms)
 }
 

@@ -1,8 +1,8 @@
 -- Small facts on tests and numbers.
 use mathlib.Core.Path.{_≡_, refl, sym}
-use mathlib.Core.Bool.{Bool, true, false, _&&_, _||_}
+use mathlib.Core.Bool.{Bool, true, false, _&&_, _||_, cond}
 use mathlib.Core.Logic.{_⊎_, inl, inr}
-use Prim.Native.Nat.{ℕ, _≤_, _<_}
+use Prim.Native.Nat.{ℕ, suc, _≤_, _<_}
 use native.Mathlib.Omega.{arith}
 use lib.Dec.{ltb, eqb}
 use borrow.Author.Tests.{ltb-true, ltb-false, eqb-true, eqb-false}
@@ -58,3 +58,8 @@ same-or-not a b = go (eqb a b) refl
     go : (q : Bool) → eqb a b ≡ q → (a ≡ b) ⊎ (b ≡ a → ⊥)
     go true e = inl (eqb-true a b e)
     go false e = inr (λ q. eqb-false a b e (sym q))
+
+-- a check that was passed: no refusal, so the test failed and the checks behind it were passed too
+pub unrefused : (p : Bool) (n m : ℕ) → cond p (suc n) m ≡ 0 → (p ≡ false) × (m ≡ 0)
+unrefused true n m e = absurd (omega arith)
+unrefused false n m e = (refl, e)

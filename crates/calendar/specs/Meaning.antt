@@ -57,6 +57,19 @@ least-none P from (suc n) e x a b = go (P from) refl e (λ f g. least-none P (su
     go true q f ih = absurd (never from (sym f))
     go false q f ih = ⊎-elim (λ (z : from ≡ x). rw (← z) q) (λ (z : from < x). ih f z) (eq-or-lt-of-le a)
 
+-- two tests that agree where they are tried find the same
+pub least-same : (P Q : ℕ → Bool) (from n : ℕ) → ((x : ℕ) → from ≤ x → x < from + n → P x ≡ Q x) → leastFrom P from n ≡ leastFrom Q from n
+unfolding leastFrom
+least-same P Q from zero f = refl
+least-same P Q from (suc n) f =
+    step (P from) (Q from) _ _ (f from (omega arith) (omega arith)) (least-same P Q (suc from) n (λ x l m. f x (omega arith) (omega arith)))
+  where
+    step : (p q : Bool) (x y : Found) → p ≡ q → x ≡ y → _≡_ {A = Found} (elim p [ true ↦ at from | false ↦ x ]) (elim q [ true ↦ at from | false ↦ y ])
+    step true true x y e g = refl
+    step true false x y e g = absurd (not-both true refl e)
+    step false true x y e g = absurd (not-both true refl (sym e))
+    step false false x y e g = g
+
 -- A search finds something or nothing, so that both hold the other way round too.
 pub least-is : (P : ℕ → Bool) (from n s : ℕ) → Least P from n s → leastFrom P from n ≡ at s
 least-is P from n s r = go (leastFrom P from n) refl

@@ -116,7 +116,7 @@ fn greatest_start(held: [Hold; 8], count: usize) -> u64
     let mut i: usize = 0;
     while i < count {
         let h = held[i];
-        most = answering::later(most, h.start);
+        most = asks::core::later(most, h.start);
         i += 1;
     }
     most

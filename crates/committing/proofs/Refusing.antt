@@ -6,6 +6,7 @@ use Prim.Native.Nat.{ℕ, _+_, _^_, _≤_, _<_}
 use lib.ListN.{length}
 use lib.Dec.{leb, ltb, eqb}
 use borrow.Author.Tests.{lt-leb, le-ltb, lt-ltb, le-leb, ltb-false, leb-false, not-false, not-true}
+use Rattle.calendar.specs.Basics.{unrefused}
 use Rattle.activity.specs.Check.{every}
 use Rattle.board.specs.declared.Board.{Board}
 use Rattle.board.specs.Resources.{onBoard}
@@ -16,7 +17,7 @@ use Rattle.scheduler.specs.Alone.{diaryOf}
 use Rattle.scheduler.specs.Committing.{Line, linesOf, entriesOn, linesRefusal, commitRefusal, bookAll, commitReply}
 use Rattle.scheduler.specs.Committed.{Bookable, Right, Room, passed, room-passed}
 use Rattle.scheduler.specs.Lists.{Each}
-use Rattle.scheduler.specs.Tests.{or-left, or-right, unrefused}
+use Rattle.scheduler.specs.Tests.{or-left, or-right}
 
 -- a check that the code made, and what it is a check of
 pub check-passed : (r p q : Bool) → r ≡ p → p ≡ q → not r ≡ false → q ≡ true

@@ -10,6 +10,7 @@ use borrow.Author.Tests.{lt-ltb, le-ltb, eq-eqb, ne-eqb}
 use lib.ListN.{length, getD, set, take, drop, length-set, length-append}
 use lib.Seq.{take-suc-set, getD-take, length-take-le}
 use lib.Dec.{eqb, ltb}
+use Rattle.board.proofs.Facts.{same-side}
 use Rattle.calendar.specs.Basics.{lt-or-ge, same-or-not}
 use Rattle.scheduler.specs.declared.Entry.{Entry}
 use Rattle.scheduler.specs.Fitting.{greatestSetup, among, joinEach, companionEntry}
@@ -62,16 +63,6 @@ tally-more xs c e (suc m) =
     or-end : (p : Bool) → p || (false || false) ≡ p
     or-end true = refl
     or-end false = refl
-
-    past : (k n : ℕ) → (n ≡ k → ⊥) → n ≤ k → suc n ≤ k
-    past k n h l = ⊎-elim (λ (z : n ≡ k). absurd (h z)) (λ (z : n < k). z) (eq-or-lt-of-le l)
-
-    same-side : (k n : ℕ) → (n ≡ k → ⊥) → ltb k (suc n) ≡ ltb k n
-    same-side k n h =
-        ⊎-elim
-        (λ (l : k < n). lt-ltb k (suc n) (omega arith) ∙ sym (lt-ltb k n l))
-        (λ (l : n ≤ k). le-ltb k (suc n) (past k n h l) ∙ sym (le-ltb k n l))
-        (lt-or-ge k n)
 
 -- k cells of xs are those of es and the joined ones, each once
 pub record Joined (es : List Entry) (n : ℕ) (js : List ℕ) (xs : List Entry) (k : ℕ) : Type 0 where

@@ -103,7 +103,7 @@ fn parts_of(b: Board, category: u8, held: [Hold; 8], count: usize) -> Parts
         let matrix = r.matrix;
         let last = r.last;
         fixed[i] = matrix.present;
-        setups[i] = board::core::setup_ms(matrix, last, category, 0);
+        setups[i] = setups::setup_ms(matrix, last, category, 0);
         let companions = r.companions;
         list = push_each(list, companions, r.count);
         i += 1;

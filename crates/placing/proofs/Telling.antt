@@ -7,9 +7,10 @@ use native.Mathlib.Omega.{arith}
 use borrow.Author.Tests.{not-false, ltb-false}
 use lib.ListN.{length, drop}
 use lib.Dec.{ltb}
+use Rattle.calendar.specs.Basics.{unrefused}
 use Rattle.calendar.specs.declared.Calendar.{Calendar}
 use Rattle.calendar.specs.Valid as calendar
-use Rattle.calendar.specs.Meaning.{least-found}
+use Rattle.calendar.specs.Meaning.{least-found, least-same}
 use Rattle.calendar.specs.Search.{Found, nothing, at, leastFrom}
 use Rattle.calendar.specs.Work.{lastChange, jointEnd}
 use Rattle.timeline.specs.Ask as asking
@@ -26,10 +27,8 @@ use Rattle.scheduler.specs.Alone.{Share, allStart, lastOf, earliestOf}
 use Rattle.scheduler.specs.Fitting.{calendarOf, sharesOf, suits, lastAll, fitting, endOf}
 use Rattle.scheduler.specs.Placing as placement
 use Rattle.scheduler.specs.Placing.{Reply, placed, chosenNone, started, fitted, placeRefusal, rowOf, slateAfter}
-use Rattle.scheduler.specs.Lending.{least-same}
 use Rattle.scheduler.specs.Latest.{last-small}
 use Rattle.scheduler.specs.Together.{Sound}
-use Rattle.scheduler.specs.Tests.{unrefused}
 use Rattle.scheduler.specs.Owning.{ownShare, suitsOn, suits-on}
 use Rattle.fitting.specs.Jointly.{jointly, ended}
 use Rattle.placing.specs.Told.{unbroken, closing, orderRefusal, told}

@@ -1,5 +1,4 @@
 -- Laws on plain values, for the proofs of this crate.
 pub mod Figures
-pub mod Putting
 pub mod Lengths
 pub mod Doing

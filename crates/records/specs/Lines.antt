@@ -4,7 +4,7 @@ use mathlib.Core.List.{List, [], _∷_, _++_}
 use Rattle.timeline.specs.Ask.{Reply, fit, none, refused}
 use Rattle.records.specs.declared.Line.{Line}
 use Rattle.records.specs.declared.Line.the-variants.{Nothing, Fit, None, Refused}
-use Rattle.records.specs.Numbers.{decimal}
+use Rattle.streams.specs.Text.{decimal}
 
 -- nothing, or a line: `fit START END`, `none`, `refused N`
 pub data Printed : Type 0 where

@@ -15,7 +15,8 @@ use Rattle.timeline.specs.Free.{overlaps, onAt, load, roomFrom, free}
 use Rattle.timeline.specs.Earliest.{fitsAt, lastEvent, earliestFit}
 use Rattle.timeline.specs.Book.{capacityOf, insertBooking, latestEnds, diary, bookReply}
 use Rattle.timeline.specs.Ask.{unbroken, askRefusal, refusedOr, asked}
-use Rattle.records.specs.Numbers.{little, decimalTo}
+use Rattle.streams.specs.Text.{decimalTo}
+use Rattle.records.specs.Numbers.{little}
 use Rattle.records.specs.Lines.{textOf}
 use Rattle.records.specs.Records.{bodyLen, books, asks, recordDoes, turnReply}
 use Rattle.records.specs.Stream.{goOn, streamFrom, slot}

@@ -39,7 +39,7 @@ pub struct Turn {
 }
 
 // How many bytes the body of a record has, 21 for an unknown kind.
-pub fn body_len(kind: u8) -> usize
+fn body_len(kind: u8) -> usize
     ensures { λ r. ⌜ r ≡ bodyLen kind ⌝ }
 {
     match kind {

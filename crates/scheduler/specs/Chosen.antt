@@ -46,18 +46,6 @@ greatest-is P (h ∷ k ∷ hs) (each-on p a) l = go (greatestStart (k ∷ hs)) (
         (λ (m : g ≤ h .start). let e : max (h .start) g ≡ h .start = omega arith in rw e p)
         (lt-or-ge (h .start) g)
 
-instantOf : Choice → ℕ
-instantOf noChoice = 0
-instantOf (chosen t hs) = t
-
-heldBy : Choice → List Held
-heldBy noChoice = []
-heldBy (chosen t hs) = hs
-
-isChosen : Choice → Bool
-isChosen noChoice = false
-isChosen (chosen t hs) = true
-
 heldOf : Round → List Held
 heldOf tooFew = []
 heldOf (holds hs) = hs

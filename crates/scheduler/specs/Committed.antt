@@ -9,7 +9,7 @@ use lib.ListN.{getD, set, length, length-set}
 use lib.Dec.{leb, ltb, eqb}
 use lib.Seq.{getD-set-same, getD-set-other}
 use borrow.Author.Tests.{leb-true, ltb-false, leb-false, le-leb, eqb-true, eqb-false, eq-eqb, not-false}
-use Rattle.calendar.specs.Basics.{and-split, and-join, not-both, lt-or-ge, same-or-not}
+use Rattle.calendar.specs.Basics.{and-split, and-join, not-both, lt-or-ge, same-or-not, unrefused}
 use Rattle.calendar.specs.Search.{Found, nothing, at}
 use Rattle.timeline.specs.declared.ResourceTimeline.{ResourceTimeline}
 use Rattle.timeline.specs.Bookings.{bookings}
@@ -32,9 +32,9 @@ use Rattle.board.proofs.Keeping.{valid-with}
 use Rattle.scheduler.specs.Alone.{resourceIn, diaryOf}
 use Rattle.scheduler.specs.Committing.{Line, entriesOn, linesOf, linesRefusal, commitRefusal, withBooking, lastAfter, booked, bookAll, commitReply}
 use Rattle.scheduler.specs.Lists.{Each, each-end, each-on, each-map}
-use Rattle.scheduler.specs.Lending.{least-same}
+use Rattle.calendar.specs.Meaning.{least-same}
 use Rattle.scheduler.specs.Ruled.{on-place, on-valid}
-use Rattle.scheduler.specs.Tests.{or-left, or-right, unrefused}
+use Rattle.scheduler.specs.Tests.{or-left, or-right}
 
 module _ (start end category : ℕ) where
   -- a resource that an entry does not name stays as it is

@@ -8,7 +8,7 @@ use native.Mathlib.Omega.{arith}
 use lib.ListN.{length, take, drop}
 use lib.Dec.{leb, ltb}
 use borrow.Author.Tests.{leb-true, not-false}
-use Rattle.calendar.specs.Basics.{and-split, not-both, lt-or-ge}
+use Rattle.calendar.specs.Basics.{and-split, not-both, lt-or-ge, unrefused}
 use Rattle.calendar.specs.Search.{Found, nothing, at}
 use Rattle.calendar.specs.Valid as calendar
 use Rattle.timeline.proofs.Meaning.{Earliest}
@@ -30,7 +30,7 @@ use Rattle.scheduler.specs.Meaning.{choosing-means, some-of-each}
 use Rattle.scheduler.specs.Alike.{Alike, NoExtra}
 use Rattle.scheduler.specs.Twins.{Clean}
 use Rattle.scheduler.specs.Holding.{TwinHeld, enough-less, held-same, entries-same, clean-held-all, fitted-same}
-use Rattle.scheduler.specs.Tests.{or-right, unrefused}
+use Rattle.scheduler.specs.Tests.{or-right}
 
 fitted-instant : (b : Board) (a : Activity) (span t : ℕ) (es : List Entry) → choosingInstant (fitted b a span t es) ≡ at t
 unfolding fitted started ended choosingInstant

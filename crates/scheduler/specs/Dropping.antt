@@ -46,13 +46,6 @@ unfolding comesFirst
 first-is c d (inl l) = rw (lt-ltb (c .start) (d .start) l) refl
 first-is c d (inr w) = rw (le-ltb (c .start) (d .start) (omega (arith, w .0)), eq-eqb (c .start) (d .start) (w .0), lt-ltb (c .process) (d .process) (w .1)) refl
 
-not-is : (c d : Candidate) → Not c d → comesFirst c d ≡ false
-unfolding comesFirst
-not-is c d (inl l) =
-    let n : c .start ≡ d .start → ⊥ = λ e. omega arith in
-    rw (le-ltb (c .start) (d .start) (omega arith), ne-eqb (c .start) (d .start) n) refl
-not-is c d (inr w) = rw (le-ltb (c .start) (d .start) (omega (arith, w .0)), eq-eqb (c .start) (d .start) (w .0), le-ltb (c .process) (d .process) (w .1)) refl
-
 -- x before d, and e not: x before e
 onward : (x d e : Candidate) → First x d → Not e d → First x e
 onward x d e (inl l) (inl m) = inl (omega arith)

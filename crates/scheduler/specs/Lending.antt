@@ -13,7 +13,7 @@ use Rattle.calendar.specs.Basics.{and-split, and-join, no-way, not-both}
 use Rattle.calendar.specs.Search.{Found, nothing, at, leastFrom}
 use Rattle.calendar.specs.Fits.{fits}
 use Rattle.calendar.specs.Work.{jointEnd}
-use Rattle.calendar.specs.Meaning.{least-none, least-is}
+use Rattle.calendar.specs.Meaning.{least-none, least-is, least-same}
 use Rattle.timeline.specs.declared.ResourceTimeline.{ResourceTimeline}
 use Rattle.timeline.specs.Bookings.{bookings}
 use Rattle.timeline.specs.Earliest.{freeOn, fitsAt, freeTo, startsAt}
@@ -71,17 +71,6 @@ all-free-less (x ∷ xs) (y ∷ ys) s e (pairs-on a p) h =
 
 pub same-alike : (t : ResourceTimeline) → AlikeDiary t t
 same-alike t = record { capacity-same = refl; calendar-same = refl; more = λ b. omega arith }
-
-pub least-same : (P Q : ℕ → Bool) (i n : ℕ) → ((m : ℕ) → i ≤ m → m < i + n → P m ≡ Q m) → leastFrom P i n ≡ leastFrom Q i n
-unfolding leastFrom
-least-same P Q i zero f = refl
-least-same P Q i (suc n) f = go (P i) (Q i) (f i (omega arith) (omega arith)) (least-same P Q (suc i) n (λ m l h. f m (omega arith) (omega arith)))
-  where
-    go : (p q : Bool) → p ≡ q → leastFrom P (suc i) n ≡ leastFrom Q (suc i) n → _≡_ {A = Found} (elim p [ true ↦ at i | false ↦ leastFrom P (suc i) n ]) (elim q [ true ↦ at i | false ↦ leastFrom Q (suc i) n ])
-    go true true e h = refl
-    go true false e h = absurd (not-both true refl e)
-    go false true e h = absurd (not-both true refl (sym e))
-    go false false e h = h
 
 module _ (b c : Board) (k : Alike b c) where
   -- a number has the same place on both

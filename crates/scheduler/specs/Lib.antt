@@ -24,7 +24,6 @@ pub mod Twins
 pub mod Dropping
 pub mod Holding
 pub mod Demand3
-pub mod Runs
 pub mod Committed
 pub mod Reported
 pub mod Latest
@@ -32,4 +31,3 @@ pub mod Asking
 pub mod Owning
 pub mod Counting
 pub mod Meaning
-pub mod Witness

@@ -8,7 +8,7 @@ use native.Mathlib.Omega.{arith}
 use lib.ListN.{length, drop}
 use lib.Dec.{leb, ltb}
 use borrow.Author.Tests.{leb-true, not-false}
-use Rattle.calendar.specs.Basics.{and-split, not-both}
+use Rattle.calendar.specs.Basics.{and-split, not-both, unrefused}
 use Rattle.calendar.specs.Search.{Found, nothing, at}
 use Rattle.calendar.specs.Valid as calendar
 use Rattle.calendar.specs.Work.{jointEnd}
@@ -24,7 +24,7 @@ use Rattle.scheduler.specs.declared.Entry.{Entry}
 use Rattle.scheduler.specs.Fitting.{entriesOf, spanTogether, sharesOf, calendarsOf, freeToEnd, startsAll, suits, fitting, endOf}
 use Rattle.scheduler.specs.Placing.{Reply, placed, chosenNone, none, refused, ended, started, fitted, fitChosen, byRequirements, placing, rowOf, slateAfter}
 use Rattle.scheduler.specs.Plain.{enough, heldAt}
-use Rattle.scheduler.specs.Tests.{or-right, unrefused}
+use Rattle.scheduler.specs.Tests.{or-right}
 use Rattle.scheduler.specs.Together.{Sound}
 use Rattle.scheduler.specs.Answering.{Answers}
 use Rattle.scheduler.specs.Events.{above-length}

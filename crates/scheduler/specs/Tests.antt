@@ -30,8 +30,3 @@ pub both-ways : (p q : Bool) → (p ≡ true → q ≡ true) → (q ≡ true →
 both-ways true q f g = sym (f refl)
 both-ways false true f g = g refl
 both-ways false false f g = refl
-
--- a check that was passed
-pub unrefused : (p : Bool) (n m : ℕ) → cond p (suc n) m ≡ 0 → (p ≡ false) × (m ≡ 0)
-unrefused true n m e = absurd (omega arith)
-unrefused false n m e = (refl, e)

@@ -35,11 +35,6 @@ beforeFrom : ℕ → List ℕ → ℕ → ℕ
 beforeFrom p xs zero = p
 beforeFrom p xs (suc i) = getD xs i 0
 
-before-is : (xs : List ℕ) (i : ℕ) → before xs i ≡ beforeFrom 0 xs i
-unfolding before beforeFrom
-before-is xs zero = refl
-before-is xs (suc i) = refl
-
 before-cons : (x : ℕ) (xs : List ℕ) (i : ℕ) → getD (x ∷ xs) i 0 ≡ beforeFrom x xs i
 unfolding beforeFrom
 before-cons x xs zero = refl

@@ -15,16 +15,6 @@ use Rattle.timeline.specs.Free.{overlaps, onAt, load, roomAt, roomFrom, 
 use Rattle.timeline.specs.Steps.{overlapping}
 use Rattle.timeline.proofs.Rows.{none}
 
-pub load-snoc : (bs : List Booking) (b : Booking) (s e p : ℕ) → load (bs ++ (b ∷ [])) s e p ≡ load bs s e p + cond (onAt (b .start) (b .end) s e p) (b .units) 0
-unfolding load
-load-snoc [] b s e p = omega arith
-load-snoc (a ∷ bs) b s e p = rw (load-snoc bs b s e p) (omega arith)
-
-pub overlapping-snoc : (bs : List Booking) (b : Booking) (s e : ℕ) → overlapping (bs ++ (b ∷ [])) s e ≡ overlapping bs s e + cond (overlaps (b .start) (b .end) s e) (b .units) 0
-unfolding overlapping
-overlapping-snoc [] b s e = omega arith
-overlapping-snoc (a ∷ bs) b s e = rw (overlapping-snoc bs b s e) (omega arith)
-
 -- what the test says, and what it asks
 pub record On (a z s e p : ℕ) : Type 0 where
   pub starts : a < e

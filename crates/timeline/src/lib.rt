@@ -4,7 +4,6 @@ use calendar::Calendar;
 
 mod insert;
 
-pub use columns::open_at;
 ghost use mathlib.Core.Path.{_≡_};
 ghost use mathlib.Core.Bool.{true};
 ghost use Prim.Native.Nat.{_-_, _^_, _≤_, _<_};

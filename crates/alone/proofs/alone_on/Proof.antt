@@ -3,7 +3,7 @@ use Rattle.alone.proofs.alone_on.Tie as tie
 use Rattle.alone.proofs.alone_on.Reads as reads
 use Rattle.alone.proofs.alone_on.Lts as lts
 use Rattle.activity.proofs.core.duration_on.Reads as duration-on-reads
-use Rattle.board.proofs.core.setup_ms.Reads as setup-ms-reads
+use Rattle.setups.proofs.setup_ms.Reads as setup-ms-reads
 use mathlib.Core.Path.{_≡_, refl}
 use native.Mathlib.Omega.{arith}
 use Rattle.board.proofs.Meaning.{resource-rules}

@@ -3,7 +3,7 @@ use Rattle.alone.proofs.plan_of.Tie as tie
 use Rattle.alone.proofs.plan_of.Reads as reads
 use Rattle.alone.proofs.plan_of.Lts as lts
 use Rattle.alone.proofs.alone_on.Reads as alone-on-reads
-use Rattle.board.proofs.core.transport_between.Reads as transport-between-reads
+use Rattle.setups.proofs.transport_between.Reads as transport-between-reads
 use mathlib.Core.Path.{_≡_, refl, sym, _∙_}
 use Prim.Native.Nat.{ℕ, _-_, _≤_, _<_}
 use native.Mathlib.Omega.{arith}

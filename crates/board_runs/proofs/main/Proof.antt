@@ -1,13 +1,14 @@
--- `board_runs::main` meets its contract: the invariant: what is left lies in the buffer. The measure is the turns left.
+-- `board_runs::main` meets its contract: the invariant: what is unread lies in the buffer. The measure is the turns left.
 use borrow.Author.Needs.{needs}
 use native.Mathlib.Omega.{arith}
 use Prim.Native.Nat.{_≤_}
 use borrow.Author.Tests.{ltb-true}
+use Rattle.streams.specs.Input.{Lies}
 use Rattle.board_runs.proofs.main.Statement.{statement}
 use Rattle.board_runs.proofs.main.Tie as tie
 
 abbrev Inv-loop : tie.InvT-loop
-Inv-loop buf₀ desk₀ s₀ turns₀ more₀ buf desk s turns more = (s .at ≤ s .len) × (s .len ≤ 65536)
+Inv-loop buf₀ desk₀ s₀ turns₀ more₀ buf desk s turns more = Lies s
 
 abbrev μ-loop : tie.MeasureT-loop
 μ-loop buf₀ desk₀ s₀ turns₀ more₀ buf desk s turns more = turns
@@ -19,7 +20,7 @@ new-requires : tie.Need-new-requires Inv-loop μ-loop
 new-requires c κs = search needs
 
 loop-holds : tie.Need-loop-holds Inv-loop μ-loop
-loop-holds c = (omega arith, omega arith)
+loop-holds c = record { low = omega arith; high = omega arith }
 
 sub-turns : tie.Need-sub-turns Inv-loop μ-loop
 sub-turns c = search needs
@@ -37,7 +38,10 @@ loop-less : tie.Need-loop-less Inv-loop μ-loop
 loop-less c = omega (arith, ltb-true 0 (c .before .before .before .before .before .before .before .before .loop .turns) (c .before .before .before .before .before .before .if1 .taken))
 
 loop-again : tie.Need-loop-again Inv-loop μ-loop
-loop-again c = (c .before .before .next .ensures, c .before .before .before .before .supply .ensures .0 .1)
+loop-again c =
+    let n = c .before .before .next .ensures in
+    let l = c .before .before .before .before .supply .ensures .lies in
+    record { low = n; high = l .high }
 
 returns : tie.Need-returns Inv-loop μ-loop
 returns c = search needs

@@ -1,7 +1,8 @@
 -- `choosing::choose` meets its contract. The loop: the rounds so far have led to t (Settling).
+use Rattle.answering.specs.declared.Table.{Table}
 use Rattle.choosing.proofs.choose.Statement.{statement}
 use Rattle.choosing.proofs.choose.Tie as tie
-use mathlib.Core.Path.{_≡_, sym, _∙_, subst}
+use mathlib.Core.Path.{_≡_, sym, _∙_, subst, ap}
 use Prim.Native.Nat.{ℕ, _-_, _^_, _≤_, _<_}
 use native.Mathlib.Omega.{arith}
 use borrow.Author.Needs.{needs}
@@ -29,7 +30,7 @@ loop-holds c =
     let d = c .before .before in
     let k = accepted (d .args .a) (d .args .ready) (d .pre .1) in
     let n = c .nothing-asked .ensures in
-    (omega arith, omega (arith, k .ready-range), led-start (d .args .b) (d .args .a) (d .args .ready), kept-none (d .args .b) (d .args .a) (c .before .plan-of .result) (c .nothing-asked .result) (rules (d .args .b) (d .pre .0) .few) (k .few) (n .0) (n .1))
+    (omega arith, omega (arith, k .ready-range), led-start (d .args .b) (d .args .a) (d .args .ready), kept-none (d .args .b) (d .args .a) (c .before .plan-of .result) (c .nothing-asked .result) (rules (d .args .b) (d .pre .0) .few) (k .few) (ap (λ (t : Table). t .asked) n) (ap (λ (t : Table). t .starts) n))
 
 nothing-asked-requires : tie.Need-nothing-asked-requires Inv-loop μ-loop
 nothing-asked-requires c κs = search needs

@@ -2,7 +2,7 @@ use Rattle.entries.proofs.parts_of.Statement.{statement}
 use Rattle.entries.proofs.parts_of.Tie as tie
 use Rattle.entries.proofs.parts_of.Reads as reads
 use Rattle.entries.proofs.parts_of.Lts as lts
-use Rattle.board.proofs.core.setup_ms.Reads as setup-ms-reads
+use Rattle.setups.proofs.setup_ms.Reads as setup-ms-reads
 use Rattle.entries.proofs.push_each.Reads as push-each-reads
 use mathlib.Core.Path.{_≡_, refl, sym, _∙_}
 use mathlib.Core.Bool.{false, cond}

@@ -1,16 +1,17 @@
--- `slot::main` meets its contract: the invariant: what is left lies in the buffer, and so does what waits. The measure is the turns left.
+-- `slot::main` meets its contract: the invariant: what is unread lies in the buffer, and so does what waits. The measure is the turns left.
 use borrow.Author.Needs.{needs}
 use native.Mathlib.Omega.{arith}
 use Prim.Native.Nat.{_≤_}
 use borrow.Author.Tests.{ltb-true}
+use Rattle.streams.specs.Input.{Lies}
 use Rattle.slot.proofs.main.Statement.{statement}
 use Rattle.slot.proofs.main.Tie as tie
 
 abbrev Inv-loop : tie.InvT-loop
-Inv-loop buf₀ out₀ t₀ s₀ turns₀ more₀ buf out t s turns more = (s .at ≤ s .len) × (s .len ≤ 65536) × (s .used ≤ 65536)
+Inv-loop buf₀ out₀ t₀ s₀ used₀ turns₀ more₀ buf out t s used turns more = Lies s × (used ≤ 65536)
 
 abbrev μ-loop : tie.MeasureT-loop
-μ-loop buf₀ out₀ t₀ s₀ turns₀ more₀ buf out t s turns more = turns
+μ-loop buf₀ out₀ t₀ s₀ used₀ turns₀ more₀ buf out t s used turns more = turns
 
 large-buffer-requires : tie.Need-large-buffer-requires Inv-loop μ-loop
 large-buffer-requires c κs = search needs
@@ -22,7 +23,7 @@ new-requires : tie.Need-new-requires Inv-loop μ-loop
 new-requires c κs = search needs
 
 loop-holds : tie.Need-loop-holds Inv-loop μ-loop
-loop-holds c = (omega arith, omega arith, omega arith)
+loop-holds c = (record { low = omega arith; high = omega arith }, omega arith)
 
 sub-turns : tie.Need-sub-turns Inv-loop μ-loop
 sub-turns c = search needs
@@ -43,7 +44,10 @@ loop-less : tie.Need-loop-less Inv-loop μ-loop
 loop-less c = omega (arith, ltb-true 0 (c .before .before .before .before .before .before .before .before .before .before .before .loop .turns) (c .before .before .before .before .before .before .before .before .before .if1 .taken))
 
 loop-again : tie.Need-loop-again Inv-loop μ-loop
-loop-again c = (c .before .before .before .before .before .next .ensures, c .before .before .before .before .before .before .before .supply .ensures .0 .1, c .print .ensures)
+loop-again c =
+    let n = c .before .before .before .before .before .next .ensures in
+    let l = c .before .before .before .before .before .before .before .supply .ensures .lies in
+    (record { low = n; high = l .high }, c .print .ensures)
 
 finish-requires : tie.Need-finish-requires Inv-loop μ-loop
 finish-requires c κs = search needs

@@ -1,11 +1,9 @@
 -- `records::lines::put_refused` meets its contract: three pieces, one behind the other.
 use borrow.Author.Needs.{needs}
 use native.Mathlib.Omega.{arith}
-use mathlib.Core.Path.{_∙_}
 use mathlib.Core.List.{[], _∷_}
-use lib.ListN.{take}
+use Rattle.streams.specs.Laws.{then}
 use Rattle.records.specs.Lines.{textOf}
-use Rattle.records.proofs.Putting.{three, rest-more}
 use Rattle.records.proofs.lines.put_refused.Statement.{statement}
 use Rattle.records.proofs.lines.put_refused.Tie as tie
 
@@ -30,17 +28,11 @@ same-length c = search needs
 returns : tie.Need-returns
 unfolding textOf
 returns c =
-    let a = c .before .before .before .before .before .before .before .before .before .before .before .before .before .before .before .args in
     let p = c .before .before .before .before .before .before .before .before .before .before .before .put in
     let q = c .before .before .before .before .before .before .before .put-number in
     let r = c .before .before .put2 in (
-      omega (arith, p .ensures .0, q .ensures .0, r .ensures .0),
-      (
-        three (take (a .at) (a .out .now)) _ _ _ (114 ∷ 101 ∷ 102 ∷ 117 ∷ 115 ∷ 101 ∷ 100 ∷ 32 ∷ []) _ _ (p .ensures .1 .0) (q .ensures .1 .0) (r .ensures .1 .0),
-        r .ensures .1 .1
-            ∙ rest-more (q .result) (r .result) (q .last .0) (p .last .0) (omega (arith, p .ensures .0, q .ensures .0, r .ensures .0)) (q .ensures .1 .1)
-            ∙ rest-more (p .result) (r .result) (p .last .0) (a .out .now) (omega (arith, p .ensures .0, q .ensures .0, r .ensures .0)) (p .ensures .1 .1),
-      ),
+      then _ (114 ∷ 101 ∷ 102 ∷ 117 ∷ 115 ∷ 101 ∷ 100 ∷ 32 ∷ []) _ _ _ _ _ _ (omega arith) (p .ensures) (then _ _ _ (10 ∷ []) _ _ _ _ (omega arith) (q .ensures .0) (r .ensures)),
+      omega arith,
     )
 
 pub put-refused-spec : {M : Type 1} → statement M

@@ -1,11 +1,8 @@
 -- `records::lines::text` meets its contract: by the cases of the line.
 use borrow.Author.Needs.{needs}
 use native.Mathlib.Omega.{arith}
-use mathlib.Core.Path.{sym, ap, _∙_, refl}
-use mathlib.Core.List.{_++_}
+use Rattle.streams.specs.Laws.{put-none}
 use Rattle.records.specs.Lines.{textOf, lineOf}
-use lib.ListN.{take}
-use Rattle.records.proofs.Putting.{no-text}
 use Rattle.records.proofs.lines.text.Statement.{statement}
 use Rattle.records.proofs.lines.text.Tie as tie
 
@@ -34,28 +31,29 @@ put-refused-requires : tie.Need-put-refused-requires
 put-refused-requires c κs = search needs
 
 returns : tie.Need-returns
-returns c = (omega arith, (no-text _ _ (c .enum-told .given .1), refl))
+unfolding lineOf textOf
+returns c = rw (c .enum-told .given .1) (put-none _ _, omega arith)
 
 same-length : tie.Need-same-length
 same-length c = search needs
 
 returns-2 : tie.Need-returns-2
 unfolding lineOf
-returns-2 c = (c .before .before .put-fit .ensures .0, (c .before .before .put-fit .ensures .1 .0 ∙ sym (ap (λ l. take (c .before .before .before .before .before .before .before .before .args .at) (c .before .before .before .before .before .before .before .before .args .out .now) ++ textOf (lineOf l)) (c .before .before .before .before .before .line .given .1)), c .before .before .put-fit .ensures .1 .1))
+returns-2 c = rw (c .before .before .before .before .before .line .given .1) (c .before .before .put-fit .ensures)
 
 same-length-2 : tie.Need-same-length-2
 same-length-2 c = search needs
 
 returns-3 : tie.Need-returns-3
 unfolding lineOf textOf
-returns-3 c = (omega (arith, c .before .before .put .ensures .0), (c .before .before .put .ensures .1 .0 ∙ sym (ap (λ l. take (c .before .before .before .before .before .before .before .before .args .at) (c .before .before .before .before .before .before .before .before .args .out .now) ++ textOf (lineOf l)) (c .before .before .before .before .before .enum-told2 .given .1)), c .before .before .put .ensures .1 .1))
+returns-3 c = rw (c .before .before .before .before .before .enum-told2 .given .1) (c .before .before .put .ensures, omega (arith, c .before .before .put .ensures .end))
 
 same-length-3 : tie.Need-same-length-3
 same-length-3 c = search needs
 
 returns-4 : tie.Need-returns-4
 unfolding lineOf
-returns-4 c = (c .before .before .put-refused .ensures .0, (c .before .before .put-refused .ensures .1 .0 ∙ sym (ap (λ l. take (c .before .before .before .before .before .before .before .before .args .at) (c .before .before .before .before .before .before .before .before .args .out .now) ++ textOf (lineOf l)) (c .before .before .before .before .before .line2 .given .1)), c .before .before .put-refused .ensures .1 .1))
+returns-4 c = rw (c .before .before .before .before .before .line2 .given .1) (c .before .before .put-refused .ensures)
 
 pub text-spec : {M : Type 1} → statement M
 text-spec =

@@ -1,0 +1,2 @@
+-- Document 01, 'Durations, setups, transport': speeds.
+pub mod Speeds

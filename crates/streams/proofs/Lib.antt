@@ -1,0 +1,4 @@
+-- Laws on plain lists, for the proofs of this crate.
+pub mod Moving
+pub mod Figures
+pub mod Pasting

@@ -1,0 +1,5 @@
+-- What the functions on buffers answer.
+pub mod Input
+pub mod Output
+pub mod Text
+pub mod Laws
