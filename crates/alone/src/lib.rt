@@ -90,7 +90,8 @@ pub fn plan_of(b: Board, a: Activity, ready: u64) -> Plan
     }
 }
 
-// The places of a resource and its companions; its own place stands in the cells past them, and where one is not on the board.
+// The places of a resource and its companions, in this order; `right` says that every companion is on the board. The cells past them
+// hold some place on the board.
 pub struct Members {
     pub right: bool,
     pub places: [usize; 5],

@@ -10,7 +10,7 @@ use lib.Seq.{drop-cons}
 use borrow.Author.Tests.{lt-leb, le-ltb, eq-eqb}
 use Rattle.calendar.specs.Search.{at}
 use Rattle.timeline.specs.declared.ResourceTimeline.{ResourceTimeline}
-use Rattle.timeline.specs.Book.{bookReply}
+use Rattle.timeline.specs.Book.{bookRefusal, taken, bookReply}
 use Rattle.timeline.specs.Valid as timeline
 use Rattle.board.specs.declared.LastCategory.{LastCategory}
 use Rattle.board.specs.declared.LastCategory.the-variants.{Category}
@@ -33,7 +33,7 @@ use Rattle.alone.proofs.Knowing.{number-place}
 -- a booking that is not refused
 pub book-taken : (t : ResourceTimeline) (start end category u : ℕ) → timeline.valid t ≡ true → t .len < 64 → Bookable start end category → 1 ≤ u → u ≤ 10000
     → bookReply t start end u .timeline ≡ withBooking t start end u
-unfolding bookReply withBooking
+unfolding bookReply bookRefusal taken withBooking
 book-taken t start end category u v room w some few =
     let s : ltb (2 ^ 42) start ≡ false = le-ltb (2 ^ 42) start (omega (arith, w .order, w .range)) in
     let e : ltb (2 ^ 42) end ≡ false = le-ltb (2 ^ 42) end (w .range) in

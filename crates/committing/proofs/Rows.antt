@@ -28,9 +28,7 @@ use Rattle.committing.specs.Lines.{numbered, metered, roomy, Counted}
 -- the lines are the first rows, read one by one
 pub lines-rows : (n : ℕ) (slate : List (List ℕ)) → linesOf n slate ≡ map lineOf (take n slate)
 unfolding linesOf
-lines-rows zero slate = refl
-lines-rows (suc n) [] = refl
-lines-rows (suc n) (row ∷ slate) = ap (λ (ls : List Line). lineOf row ∷ ls) (lines-rows n slate)
+lines-rows n slate = refl
 
 every-map : {A B : Type 0} (P : B → Bool) (f : A → B) (xs : List A) → every P (map f xs) ≡ every (λ x. P (f x)) xs
 unfolding every

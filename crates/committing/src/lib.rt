@@ -1,4 +1,5 @@
-// Committing: each entry of a placement is booked in its diary (01, 'Placing', the commitment and its replies).
+// Committing: each entry of a placement is booked in its diary (the loop over a placement's selections in `schedule`,
+// scheduler/simple.rs; 01, 'Committing').
 use board::Board;
 use board::Entered;
 use board::LastCategory;

@@ -28,6 +28,7 @@ pub struct Closing {
     pub len: usize,
 }
 
+// A start with its end, or none.
 pub enum Fit {
     At(u64, u64),
     Nothing,

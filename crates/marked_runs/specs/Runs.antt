@@ -18,7 +18,7 @@ use Rattle.timeline.specs.Bookings.{bookingsTo, total, latestEnd}
 use Rattle.timeline.specs.Valid as timeline
 use Rattle.timeline.specs.Free.{overlaps, onAt, load, roomFrom, free}
 use Rattle.timeline.specs.Earliest.{fitsAt, freeTo, startsAt, lastEvent, earliestFit, earliestResumable}
-use Rattle.timeline.specs.Book.{insertBooking, latestEnds, diary, bookReply}
+use Rattle.timeline.specs.Book.{insertBooking, latestEnds, diary, bookRefusal, taken, bookReply}
 use Rattle.timeline.specs.Ask as asking
 use Rattle.timeline.specs.Runs.{touching, broken}
 use Rattle.activity.specs.declared.ActivityDuration.{ActivityDuration}
@@ -145,15 +145,15 @@ replies =
     ∷ []
 
 pub runs : map run marked ≡ replies
-unfolding run eq le mul div ofInt leastFrom spansFrom any holds meets contains calendar.cellRight calendar.cellsRight calendar.spansRight calendar.valid openFor fits working joint endFrom workEnd latest lastChange empty bookingsTo total latestEnd timeline.before timeline.cellRight timeline.cellEmpty timeline.filledFrom timeline.emptyFrom timeline.valid overlaps onAt load roomFrom free fitsAt freeTo startsAt lastEvent earliestFit earliestResumable insertBooking latestEnds diary bookReply asking.unbroken asking.ended asking.resumed asking.askRefusal asking.refusedOr asking.asked halfUp roundAway processAt isSpeed greatest product durationOn bit covers candidate serves readyOf every releaseRight short quantity quantitiesRight usageRight timesRight activityRefusal resources.lookupTo resources.isAt entryOr matrixSetup setupMs transport.bit transport.greatest board.everyFrom board.durationRight board.entryRight board.isZero board.matrixRight board.companionsRight board.lastRight board.resourceRight board.calendarBlank board.diaryBlank board.lastBlank board.resourceBlank board.cellRight board.transportRight board.valid canStart allStart lastOf earliestOf resourceIn withCompanions durationAlone spanOf arrival startAlone comesFirst insert sortInto answer candidates holdFirst behind round greatestStart settle rounds choosing durationTogether greatestSetup among joinEach allCompanions companionEntries entriesOf spanTogether fitsAll allFree freeToEnd startsAll suits lastAll fitting endOf ended started fitted fitChosen timeOnly byRequirements placing refusedOr placeRefusal placeReply
+unfolding run eq le mul div ofInt leastFrom spansFrom any holds meets contains calendar.cellRight calendar.cellsRight calendar.spansRight calendar.valid openFor fits working joint endFrom workEnd latest lastChange empty bookingsTo total latestEnd timeline.before timeline.cellRight timeline.cellEmpty timeline.filledFrom timeline.emptyFrom timeline.valid overlaps onAt load roomFrom free fitsAt freeTo startsAt lastEvent earliestFit earliestResumable insertBooking latestEnds diary bookRefusal taken bookReply asking.unbroken asking.ended asking.resumed asking.askRefusal asking.refusedOr asking.asked halfUp roundAway processAt isSpeed greatest product durationOn bit covers candidate serves readyOf every releaseRight short quantity quantitiesRight usageRight timesRight activityRefusal resources.lookupTo resources.isAt entryOr matrixSetup setupMs transport.bit transport.greatest board.everyFrom board.durationRight board.entryRight board.isZero board.matrixRight board.companionsRight board.lastRight board.resourceRight board.calendarBlank board.diaryBlank board.lastBlank board.resourceBlank board.cellRight board.transportRight board.valid canStart allStart lastOf earliestOf resourceIn withCompanions durationAlone spanOf arrival startAlone comesFirst insert sortInto answer candidates holdFirst behind round greatestStart settle rounds choosing durationTogether greatestSetup among joinEach allCompanions companionEntries entriesOf spanTogether fitsAll allFree freeToEnd startsAll suits lastAll fitting endOf ended started fitted fitChosen timeOnly byRequirements placing refusedOr placeRefusal placeReply
 runs = refl
 
 -- M11's first placing, by itself
 pub first-placed : placeReply (boardOf (booked free1 0 100) free1) (order 30 1 []) 0 24 ≡ placed 0 0 30 (entry 1 ∷ [])
-unfolding eq le mul div ofInt leastFrom spansFrom any holds meets contains calendar.cellRight calendar.cellsRight calendar.spansRight calendar.valid openFor fits working joint endFrom workEnd latest lastChange empty bookingsTo total latestEnd timeline.before timeline.cellRight timeline.cellEmpty timeline.filledFrom timeline.emptyFrom timeline.valid overlaps onAt load roomFrom free fitsAt freeTo startsAt lastEvent earliestFit earliestResumable insertBooking latestEnds diary bookReply asking.unbroken asking.ended asking.resumed asking.askRefusal asking.refusedOr asking.asked halfUp roundAway processAt isSpeed greatest product durationOn bit covers candidate serves readyOf every releaseRight short quantity quantitiesRight usageRight timesRight activityRefusal resources.lookupTo resources.isAt entryOr matrixSetup setupMs transport.bit transport.greatest board.everyFrom board.durationRight board.entryRight board.isZero board.matrixRight board.companionsRight board.lastRight board.resourceRight board.calendarBlank board.diaryBlank board.lastBlank board.resourceBlank board.cellRight board.transportRight board.valid canStart allStart lastOf earliestOf resourceIn withCompanions durationAlone spanOf arrival startAlone comesFirst insert sortInto answer candidates holdFirst behind round greatestStart settle rounds choosing durationTogether greatestSetup among joinEach allCompanions companionEntries entriesOf spanTogether fitsAll allFree freeToEnd startsAll suits lastAll fitting endOf ended started fitted fitChosen timeOnly byRequirements placing refusedOr placeRefusal placeReply
+unfolding eq le mul div ofInt leastFrom spansFrom any holds meets contains calendar.cellRight calendar.cellsRight calendar.spansRight calendar.valid openFor fits working joint endFrom workEnd latest lastChange empty bookingsTo total latestEnd timeline.before timeline.cellRight timeline.cellEmpty timeline.filledFrom timeline.emptyFrom timeline.valid overlaps onAt load roomFrom free fitsAt freeTo startsAt lastEvent earliestFit earliestResumable insertBooking latestEnds diary bookRefusal taken bookReply asking.unbroken asking.ended asking.resumed asking.askRefusal asking.refusedOr asking.asked halfUp roundAway processAt isSpeed greatest product durationOn bit covers candidate serves readyOf every releaseRight short quantity quantitiesRight usageRight timesRight activityRefusal resources.lookupTo resources.isAt entryOr matrixSetup setupMs transport.bit transport.greatest board.everyFrom board.durationRight board.entryRight board.isZero board.matrixRight board.companionsRight board.lastRight board.resourceRight board.calendarBlank board.diaryBlank board.lastBlank board.resourceBlank board.cellRight board.transportRight board.valid canStart allStart lastOf earliestOf resourceIn withCompanions durationAlone spanOf arrival startAlone comesFirst insert sortInto answer candidates holdFirst behind round greatestStart settle rounds choosing durationTogether greatestSetup among joinEach allCompanions companionEntries entriesOf spanTogether fitsAll allFree freeToEnd startsAll suits lastAll fitting endOf ended started fitted fitChosen timeOnly byRequirements placing refusedOr placeRefusal placeReply
 first-placed = refl
 
 -- a companion joins with setup 0 and unit 1, and its speed does not count
 pub companion-joins : placeReply (record { resources = newResource 0 0 0 (1 ∷ []) free1 ∷ newResource 1 9 0 [] free1 ∷ replicate 14 blankResource; len = 2; transport = replicate 256 0 }) (order 100 1 (record { timing = Nothing } ∷ at two ∷ [])) 0 24 ≡ placed 0 0 100 (entry 0 ∷ record { number = 1; setup = 0; units = 1; companion = true } ∷ [])
-unfolding eq le mul div ofInt leastFrom spansFrom any holds meets contains calendar.cellRight calendar.cellsRight calendar.spansRight calendar.valid openFor fits working joint endFrom workEnd latest lastChange empty bookingsTo total latestEnd timeline.before timeline.cellRight timeline.cellEmpty timeline.filledFrom timeline.emptyFrom timeline.valid overlaps onAt load roomFrom free fitsAt freeTo startsAt lastEvent earliestFit earliestResumable insertBooking latestEnds diary bookReply asking.unbroken asking.ended asking.resumed asking.askRefusal asking.refusedOr asking.asked halfUp roundAway processAt isSpeed greatest product durationOn bit covers candidate serves readyOf every releaseRight short quantity quantitiesRight usageRight timesRight activityRefusal resources.lookupTo resources.isAt entryOr matrixSetup setupMs transport.bit transport.greatest board.everyFrom board.durationRight board.entryRight board.isZero board.matrixRight board.companionsRight board.lastRight board.resourceRight board.calendarBlank board.diaryBlank board.lastBlank board.resourceBlank board.cellRight board.transportRight board.valid canStart allStart lastOf earliestOf resourceIn withCompanions durationAlone spanOf arrival startAlone comesFirst insert sortInto answer candidates holdFirst behind round greatestStart settle rounds choosing durationTogether greatestSetup among joinEach allCompanions companionEntries entriesOf spanTogether fitsAll allFree freeToEnd startsAll suits lastAll fitting endOf ended started fitted fitChosen timeOnly byRequirements placing refusedOr placeRefusal placeReply
+unfolding eq le mul div ofInt leastFrom spansFrom any holds meets contains calendar.cellRight calendar.cellsRight calendar.spansRight calendar.valid openFor fits working joint endFrom workEnd latest lastChange empty bookingsTo total latestEnd timeline.before timeline.cellRight timeline.cellEmpty timeline.filledFrom timeline.emptyFrom timeline.valid overlaps onAt load roomFrom free fitsAt freeTo startsAt lastEvent earliestFit earliestResumable insertBooking latestEnds diary bookRefusal taken bookReply asking.unbroken asking.ended asking.resumed asking.askRefusal asking.refusedOr asking.asked halfUp roundAway processAt isSpeed greatest product durationOn bit covers candidate serves readyOf every releaseRight short quantity quantitiesRight usageRight timesRight activityRefusal resources.lookupTo resources.isAt entryOr matrixSetup setupMs transport.bit transport.greatest board.everyFrom board.durationRight board.entryRight board.isZero board.matrixRight board.companionsRight board.lastRight board.resourceRight board.calendarBlank board.diaryBlank board.lastBlank board.resourceBlank board.cellRight board.transportRight board.valid canStart allStart lastOf earliestOf resourceIn withCompanions durationAlone spanOf arrival startAlone comesFirst insert sortInto answer candidates holdFirst behind round greatestStart settle rounds choosing durationTogether greatestSetup among joinEach allCompanions companionEntries entriesOf spanTogether fitsAll allFree freeToEnd startsAll suits lastAll fitting endOf ended started fitted fitChosen timeOnly byRequirements placing refusedOr placeRefusal placeReply
 companion-joins = refl

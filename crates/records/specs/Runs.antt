@@ -13,7 +13,7 @@ use Rattle.timeline.specs.Bookings.{bookingsTo, total, latestEnd}
 use Rattle.timeline.specs.Valid.{before, cellRight, cellEmpty, filledFrom, emptyFrom, valid}
 use Rattle.timeline.specs.Free.{overlaps, onAt, load, roomFrom, free}
 use Rattle.timeline.specs.Earliest.{fitsAt, lastEvent, earliestFit}
-use Rattle.timeline.specs.Book.{capacityOf, insertBooking, latestEnds, diary, bookReply}
+use Rattle.timeline.specs.Book.{capacityOf, insertBooking, latestEnds, diary, bookRefusal, taken, bookReply}
 use Rattle.timeline.specs.Ask.{unbroken, askRefusal, refusedOr, asked}
 use Rattle.streams.specs.Text.{decimalTo}
 use Rattle.records.specs.Numbers.{little}
@@ -30,5 +30,5 @@ pub example : slot
     ((4 ∷ (low 7 100 ++ (low 7 200 ++ low 3 1)))
     ++ ((5 ∷ (low 7 50 ++ (low 7 50 ++ low 3 1))) ++ (5 ∷ (low 7 50 ++ (low 7 51 ++ low 3 1)))))
     ≡ 102 ∷ 105 ∷ 116 ∷ 32 ∷ 53 ∷ 48 ∷ 32 ∷ 49 ∷ 48 ∷ 48 ∷ 10 ∷ 102 ∷ 105 ∷ 116 ∷ 32 ∷ 50 ∷ 48 ∷ 48 ∷ 32 ∷ 50 ∷ 53 ∷ 49 ∷ 10 ∷ []
-unfolding leastFrom spansFrom any holds meets calendar.cellRight calendar.cellsRight calendar.spansRight calendar.valid openFor fits latest lastChange empty bookingsTo total latestEnd before cellRight cellEmpty filledFrom emptyFrom valid overlaps onAt load roomFrom free fitsAt lastEvent earliestFit capacityOf insertBooking latestEnds diary bookReply unbroken askRefusal refusedOr asked little decimalTo textOf bodyLen books asks recordDoes turnReply goOn streamFrom slot
+unfolding leastFrom spansFrom any holds meets calendar.cellRight calendar.cellsRight calendar.spansRight calendar.valid openFor fits latest lastChange empty bookingsTo total latestEnd before cellRight cellEmpty filledFrom emptyFrom valid overlaps onAt load roomFrom free fitsAt lastEvent earliestFit capacityOf insertBooking latestEnds diary bookRefusal taken bookReply unbroken askRefusal refusedOr asked little decimalTo textOf bodyLen books asks recordDoes turnReply goOn streamFrom slot
 example = refl

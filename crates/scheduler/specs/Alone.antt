@@ -36,7 +36,7 @@ unfoldable pub lastOf : List Share → ℕ
 lastOf [] = 0
 lastOf (x ∷ xs) = max (lastEvent (x .timeline)) (lastOf xs)
 
--- the least start ≥ from on all of them
+-- the least start ≥ from on all of them (the bound cuts nothing off: Together.antt, `together-none`)
 unfoldable pub earliestOf : Bool → ℕ → List Share → ℕ → Found
 earliestOf resumable span xs from = leastFrom (allStart resumable span xs) from (suc (lastOf xs - from))
 

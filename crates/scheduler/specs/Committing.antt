@@ -1,7 +1,7 @@
 -- The reply of committing, and the board afterwards.
-use Prim.Native.Nat.{ℕ, zero, suc, _+_, _^_}
+use Prim.Native.Nat.{ℕ, _+_, _^_}
 use mathlib.Core.Bool.{Bool, true, false, not, _&&_, _||_, cond}
-use mathlib.Core.List.{List, [], _∷_}
+use mathlib.Core.List.{List, [], _∷_, map}
 use lib.ListN.{length, getD, take}
 use lib.Dec.{leb, ltb, eqb}
 use Rattle.calendar.specs.Search.{Found, nothing, at}
@@ -28,18 +28,16 @@ pub record Line : Type 0 where
 unfoldable pub lineOf : List ℕ → Line
 lineOf row = record { number = getD row 0 0; units = getD row 2 0; companion = not (eqb (getD row 3 0) 0) }
 
+-- the first `count` entries of the slate
 unfoldable pub linesOf : ℕ → List (List ℕ) → List Line
-linesOf zero slate = []
-linesOf (suc n) [] = []
-linesOf (suc n) (row ∷ slate) = lineOf row ∷ linesOf n slate
+linesOf count slate = map lineOf (take count slate)
 
 -- how many entries a resource has
 unfoldable pub entriesOn : ℕ → List Line → ℕ
 entriesOn number [] = 0
 entriesOn number (l ∷ ls) = cond (eqb (l .number) number) 1 0 + entriesOn number ls
 
--- 7 entry count above the slate; 5 a resource not on the board, or category; 1 instant; 2 end ≤ start; 3 units; 4 a diary without
--- places for all its entries; no entries: 0
+-- 5 a resource not on the board, or category; 1 instant; 2 end ≤ start; 3 units; 4 a diary without places for all its entries
 unfoldable pub linesRefusal : Board → List Line → ℕ → ℕ → ℕ → ℕ
 linesRefusal b ls start end category =
     cond (not (every (λ l. onBoard b (l .number)) ls) || ltb 15 category) 5
@@ -48,6 +46,7 @@ linesRefusal b ls start end category =
     (cond (not (every (λ l. leb 1 (l .units) && leb (l .units) 10000) ls)) 3
     (cond (not (every (λ l. leb (diaryOf b (l .number) .len + entriesOn (l .number) ls) 64) ls)) 4 0))))
 
+-- 15 before all else; no entries: accepted; 7 entry count above the slate; then the rest
 unfoldable pub commitRefusal : Board → List (List ℕ) → ℕ → ℕ → ℕ → ℕ → ℕ
 commitRefusal b slate count start end category =
     cond (not (board.valid b)) 15

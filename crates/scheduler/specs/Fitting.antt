@@ -76,7 +76,7 @@ sharesOf b es = map (shareOf b) es
 unfoldable pub fitsAll : List Share → Calendar → ℕ → ℕ → Bool
 fitsAll xs own span s = allStart false span xs s && fits own s (s + span)
 
--- resumable: over joint working time, free to the joint end
+-- every entry has its units free over [s, e)
 unfoldable pub allFree : List Share → ℕ → ℕ → Bool
 allFree [] s e = true
 allFree (x ∷ xs) s e = freeOn (x .timeline) (x .units) s e && allFree xs s e
@@ -91,6 +91,7 @@ calendarOf x = x .timeline .calendar
 abbrev pub calendarsOf : List Share → Calendar → List Calendar
 calendarsOf xs own = own ∷ map calendarOf xs
 
+-- resumable: over joint working time, free to the joint end
 unfoldable pub startsAll : List Share → Calendar → ℕ → ℕ → Bool
 startsAll xs own work s = freeToEnd xs s (jointEnd (calendarsOf xs own) s work)
 
@@ -101,7 +102,7 @@ suits resumable xs own span s = cond resumable (startsAll xs own span s) (fitsAl
 unfoldable pub lastAll : List Share → Calendar → ℕ
 lastAll xs own = max (lastChange (own ∷ [])) (lastOf xs)
 
--- the least start ≥ from that suits all
+-- the least start ≥ from that suits all (the bound cuts nothing off: Closing.antt, `fitting-answers`)
 unfoldable pub fitting : Bool → List Share → Calendar → ℕ → ℕ → Found
 fitting resumable xs own span from = leastFrom (suits resumable xs own span) from (suc (lastAll xs own - from))
 

@@ -60,7 +60,7 @@ fn any_diary(x: u64) -> ResourceTimeline {
     t
 }
 
-// A resource more, numbered 0, 3, 6, ..; every other one takes one or two others along.
+// A resource more, numbered 0, 3, 6, ..; some take one or two others along.
 fn with_resource(board: Board, k: u64, x: u64) -> Board
     requires { ⌜ k ≤ 6 ⌝ }
 {

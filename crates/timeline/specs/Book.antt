@@ -1,5 +1,5 @@
 -- A new diary, and the replies of 'Booking' and of a window or block of a diary.
-use Prim.Native.Nat.{ℕ, _+_, _-_, _^_, max}
+use Prim.Native.Nat.{ℕ, zero, suc, _+_, _-_, _^_, max}
 use mathlib.Core.Bool.{not, cond, _||_}
 use mathlib.Core.List.{List, [], _∷_, _++_, map}
 use lib.ListN.{length, replicate}
@@ -48,18 +48,23 @@ capacityOf (negsuc n) = 1
 abbrev pub newDiary : ℤ → ResourceTimeline
 newDiary given = diary (capacityOf given) empty []
 
-abbrev pub refused : ℕ → ResourceTimeline → Booked
-refused n t = record { refusal = n; timeline = t }
+-- the number that refuses a booking: 15 before all else; 1 instant; 2 end ≤ start; 3 units outside 1 to 10,000; 4 a 65th; 0 for none
+unfoldable pub bookRefusal : ResourceTimeline → ℕ → ℕ → ℕ → ℕ
+bookRefusal t s e u =
+    cond (not (valid t)) 15
+    (cond (ltb (2 ^ 42) s || ltb (2 ^ 42) e) 1
+    (cond (leb e s) 2
+    (cond (ltb u 1 || ltb 10000 u) 3
+    (cond (leb 64 (t .len)) 4 0))))
 
--- 15 before all else; 1 instant; 2 end ≤ start; 3 units outside 1 to 10,000; 4 a 65th
+-- a refused booking leaves the diary as it was
+unfoldable pub taken : ℕ → ResourceTimeline → ResourceTimeline → Booked
+taken zero t more = record { refusal = 0; timeline = more }
+taken (suc n) t more = record { refusal = suc n; timeline = t }
+
 unfoldable pub bookReply : ResourceTimeline → ℕ → ℕ → ℕ → Booked
 bookReply t s e u =
-    cond (not (valid t)) (refused 15 t)
-    (cond (ltb (2 ^ 42) s || ltb (2 ^ 42) e) (refused 1 t)
-    (cond (leb e s) (refused 2 t)
-    (cond (ltb u 1 || ltb 10000 u) (refused 3 t)
-    (cond (leb 64 (t .len)) (refused 4 t)
-    (record { refusal = 0; timeline = diary (t .capacity) (t .calendar) (insertBooking (record { start = s; end = e; units = u }) (bookings t)) })))))
+    taken (bookRefusal t s e u) t (diary (t .capacity) (t .calendar) (insertBooking (record { start = s; end = e; units = u }) (bookings t)))
 
 -- the diary with another calendar
 unfoldable pub withCalendar : ResourceTimeline → Calendar → ResourceTimeline
@@ -76,4 +81,4 @@ withCalendar t c = record {
 
 -- a window or a block on the diary's calendar
 unfoldable pub calendarReply : ResourceTimeline → Added → Booked
-calendarReply t a = cond (not (valid t)) (refused 15 t) (record { refusal = a .refusal; timeline = withCalendar t (a .calendar) })
+calendarReply t a = cond (not (valid t)) (record { refusal = 15; timeline = t }) (record { refusal = a .refusal; timeline = withCalendar t (a .calendar) })

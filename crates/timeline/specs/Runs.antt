@@ -13,7 +13,7 @@ use Rattle.timeline.specs.Bookings.{bookingsTo, total, latestEnd}
 use Rattle.timeline.specs.Valid.{before, cellRight, cellEmpty, filledFrom, emptyFrom, valid}
 use Rattle.timeline.specs.Free.{overlaps, onAt, load, roomFrom, free}
 use Rattle.timeline.specs.Earliest.{fitsAt, freeTo, startsAt, lastEvent, earliestFit, earliestResumable}
-use Rattle.timeline.specs.Book.{insertBooking, latestEnds, diary, bookReply}
+use Rattle.timeline.specs.Book.{insertBooking, latestEnds, diary, bookRefusal, taken, bookReply}
 use Rattle.timeline.specs.Ask.{fit, none, unbroken, ended, resumed, askRefusal, refusedOr, asked, fitReply, resumableReply}
 
 -- windows 0-10, 10-20; window 0-100 with block 40-60
@@ -46,5 +46,5 @@ pub runs :
     ∷ resumableReply (bookReply (diary 1 broken []) 70 75 1 .timeline) 30 25 1
     ∷ [])
     ≡ fit 50 50 ∷ fit 50 100 ∷ fit 200 251 ∷ fit 200 200 ∷ fit 100 100 ∷ fit 0 20 ∷ none ∷ none ∷ fit 0 12 ∷ fit 30 80 ∷ fit 60 90 ∷ none ∷ fit 75 100 ∷ []
-unfolding leastFrom spansFrom any holds meets contains calendar.cellRight calendar.cellsRight calendar.spansRight calendar.valid openFor fits working joint endFrom workEnd latest lastChange empty bookingsTo total latestEnd before cellRight cellEmpty filledFrom emptyFrom valid overlaps onAt load roomFrom free fitsAt freeTo startsAt lastEvent earliestFit earliestResumable insertBooking latestEnds diary bookReply unbroken ended resumed askRefusal refusedOr asked
+unfolding leastFrom spansFrom any holds meets contains calendar.cellRight calendar.cellsRight calendar.spansRight calendar.valid openFor fits working joint endFrom workEnd latest lastChange empty bookingsTo total latestEnd before cellRight cellEmpty filledFrom emptyFrom valid overlaps onAt load roomFrom free fitsAt freeTo startsAt lastEvent earliestFit earliestResumable insertBooking latestEnds diary bookRefusal taken bookReply unbroken ended resumed askRefusal refusedOr asked
 runs = refl

@@ -10,7 +10,7 @@ ghost use Prim.Native.Nat.{_-_, _^_, _≤_, _<_};
 ghost use Rattle.calendar.specs.Add.{addWindow, addBlock};
 ghost use Rattle.timeline.specs.Bookings.{bookings, total};
 ghost use Rattle.timeline.specs.Valid.{cellRight, cellEmpty, filledFrom, emptyFrom, valid};
-ghost use Rattle.timeline.specs.Book.{capacityOf, newDiary, bookReply, calendarReply};
+ghost use Rattle.timeline.specs.Book.{capacityOf, newDiary, bookReply, calendarReply, bookRefusal};
 ghost use Rattle.timeline.specs.Reading.{readOf, capacityRead, bookedRead, latestRead};
 
 // 01: diary. The booking in cell i is starts[i], ends[i], units[i], and latest[i] the latest end of cells 0 to i (the Rust's
@@ -160,6 +160,34 @@ fn capacity_of(given: i32) -> u32
     if given > 1 { given as u32 } else { 1 }
 }
 
+// The number that refuses a booking, 0 for none.
+fn book_refusal(t: ResourceTimeline, start: u64, end: u64, units: u32) -> u8
+    ensures { λ r. ⌜ r ≡ bookRefusal t start end units ⌝ }
+{
+    if !is_valid(t) {
+        return 15;
+    }
+    if start > 4398046511104 {
+        return 1;
+    }
+    if end > 4398046511104 {
+        return 1;
+    }
+    if end <= start {
+        return 2;
+    }
+    if units < 1 {
+        return 3;
+    }
+    if units > 10000 {
+        return 3;
+    }
+    if t.len >= 64 {
+        return 4;
+    }
+    0
+}
+
 impl ResourceTimeline {
     // An empty diary without a calendar. Its capacity is the given one, and at least 1.
     pub fn new(given: i32) -> ResourceTimeline
@@ -184,45 +212,10 @@ impl ResourceTimeline {
         ensures { λ r. ⌜ r ≡ bookReply self start end units ⌝ }
         ensures { λ r. ⌜ (valid self ≡ true → valid (r .timeline) ≡ true) ⌝ }
     {
-        if !is_valid(self) {
+        let n = book_refusal(self, start, end, units);
+        if n != 0 {
             return Booked {
-                refusal: 15,
-                timeline: self,
-            };
-        }
-        if start > 4398046511104 {
-            return Booked {
-                refusal: 1,
-                timeline: self,
-            };
-        }
-        if end > 4398046511104 {
-            return Booked {
-                refusal: 1,
-                timeline: self,
-            };
-        }
-        if end <= start {
-            return Booked {
-                refusal: 2,
-                timeline: self,
-            };
-        }
-        if units < 1 {
-            return Booked {
-                refusal: 3,
-                timeline: self,
-            };
-        }
-        if units > 10000 {
-            return Booked {
-                refusal: 3,
-                timeline: self,
-            };
-        }
-        if self.len >= 64 {
-            return Booked {
-                refusal: 4,
+                refusal: n,
                 timeline: self,
             };
         }

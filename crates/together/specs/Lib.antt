@@ -1,1 +1,1 @@
--- together
+-- Nothing of its own: what several diaries answer together is defined in scheduler/specs (Alone, Asking).

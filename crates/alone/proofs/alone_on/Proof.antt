@@ -1,3 +1,4 @@
+-- `alone::alone_on` meets its contract: the durations and the setup of one resource alone.
 use Rattle.alone.proofs.alone_on.Statement.{statement}
 use Rattle.alone.proofs.alone_on.Tie as tie
 use Rattle.alone.proofs.alone_on.Reads as reads

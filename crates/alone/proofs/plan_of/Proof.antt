@@ -1,3 +1,4 @@
+-- `alone::plan_of` meets its contract. The loop: span, process time and arrival of the first i places are worked out.
 use Rattle.alone.proofs.plan_of.Statement.{statement}
 use Rattle.alone.proofs.plan_of.Tie as tie
 use Rattle.alone.proofs.plan_of.Reads as reads

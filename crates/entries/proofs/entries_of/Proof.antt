@@ -1,3 +1,4 @@
+-- `entries::entries_of` meets its contract: those held, and their companions behind them.
 use borrow.Author.Needs.{needs}
 use Rattle.entries.proofs.entries_of.Statement.{statement}
 use Rattle.entries.proofs.entries_of.Tie as tie

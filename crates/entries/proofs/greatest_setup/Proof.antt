@@ -1,3 +1,4 @@
+-- `entries::greatest_setup` meets its contract. The loop: the greatest setup of the first i entries.
 use Rattle.entries.proofs.greatest_setup.Statement.{statement}
 use Rattle.entries.proofs.greatest_setup.Tie as tie
 use Rattle.entries.proofs.greatest_setup.Reads as reads

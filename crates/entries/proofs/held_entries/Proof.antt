@@ -1,3 +1,4 @@
+-- `entries::held_entries` meets its contract. The loop: the first i of those held are entered.
 use Rattle.entries.proofs.held_entries.Statement.{statement}
 use Rattle.entries.proofs.held_entries.Tie as tie
 use Rattle.entries.proofs.held_entries.Reads as reads

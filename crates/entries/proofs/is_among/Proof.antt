@@ -1,3 +1,4 @@
+-- `entries::is_among` meets its contract. The loop: none of the first i entries has the number.
 use Rattle.entries.proofs.is_among.Statement.{statement}
 use Rattle.entries.proofs.is_among.Tie as tie
 use Rattle.entries.proofs.is_among.Reads as reads

@@ -1,3 +1,4 @@
+-- `entries::join_each` meets its contract. The loop: the first i companions have joined, each once.
 use Rattle.entries.proofs.join_each.Statement.{statement}
 use Rattle.entries.proofs.join_each.Tie as tie
 use Rattle.entries.proofs.join_each.Reads as reads

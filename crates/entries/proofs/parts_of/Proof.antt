@@ -1,3 +1,4 @@
+-- `entries::parts_of` meets its contract. The loop: the setups by matrix of the first i places are taken.
 use Rattle.entries.proofs.parts_of.Statement.{statement}
 use Rattle.entries.proofs.parts_of.Tie as tie
 use Rattle.entries.proofs.parts_of.Reads as reads

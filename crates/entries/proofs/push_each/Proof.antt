@@ -1,3 +1,4 @@
+-- `entries::push_each` meets its contract. The loop: the companions of the first i held have joined.
 use Rattle.entries.proofs.push_each.Statement.{statement}
 use Rattle.entries.proofs.push_each.Tie as tie
 use Rattle.entries.proofs.push_each.Reads as reads

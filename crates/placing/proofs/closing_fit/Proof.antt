@@ -1,3 +1,4 @@
+-- `placing::closing_fit` meets its contract: unbroken or resumable, as the order says.
 use borrow.Author.Needs.{needs}
 use Rattle.placing.proofs.closing_fit.Statement.{statement}
 use Rattle.placing.proofs.closing_fit.Tie as tie

@@ -1,3 +1,4 @@
+-- `placing::fitted` meets its contract: the closing fit told as a placement, and the slate with its entries.
 use borrow.Author.Needs.{needs}
 use Rattle.placing.proofs.fitted.Statement.{statement}
 use Rattle.placing.proofs.fitted.Tie as tie

@@ -1,3 +1,4 @@
+-- `placing::order_refusal` meets its contract: the order's own calendar, the slate, then the order.
 use borrow.Author.Needs.{needs}
 use Rattle.placing.proofs.order_refusal.Statement.{statement}
 use Rattle.placing.proofs.order_refusal.Tie as tie

@@ -1,3 +1,4 @@
+-- `placing::place_activity` meets its contract: refusal by refusal; then an order without requirements, no choice, or the choice and its fit.
 use borrow.Author.Needs.{needs}
 use Rattle.placing.proofs.place_activity.Statement.{statement}
 use Rattle.placing.proofs.place_activity.Tie as tie

@@ -1,3 +1,4 @@
+-- `placing::write` meets its contract. The loop: the first i entries stand on the slate, and the rest of it is as it was.
 use Rattle.placing.proofs.write.Statement.{statement}
 use Rattle.placing.proofs.write.Tie as tie
 use Rattle.placing.proofs.write.Reads as reads

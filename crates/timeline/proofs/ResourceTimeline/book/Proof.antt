@@ -1,107 +1,78 @@
--- `timeline::ResourceTimeline::book` meets its contract: each reply, by the tests on its way.
+-- `timeline::ResourceTimeline::book` meets its contract: a refusal leaves the diary as it is, and without one the booking goes in.
 use borrow.Author.Needs.{needs}
-use borrow.Author.Tests.{le-ltb, lt-ltb, le-leb, lt-leb, not-true, not-false}
-use mathlib.Core.Path.{_≡_, sym, _∙_}
-use mathlib.Core.Bool.{true, false}
-use Prim.Native.Nat.{ℕ, _^_, _≤_, _<_}
+use borrow.Author.Tests.{not-false, ltb-false, leb-false}
+use mathlib.Core.Path.{_≡_, refl, sym, _∙_}
+use mathlib.Core.Bool.{Bool, true, false, not, _||_, cond}
+use Prim.Native.Nat.{ℕ, zero, suc, _^_, _≤_, _<_}
 use native.Mathlib.Omega.{arith}
+use lib.Dec.{leb, ltb}
+use Rattle.calendar.specs.Basics.{unrefused}
 use Rattle.timeline.specs.declared.ResourceTimeline.{ResourceTimeline}
+use Rattle.timeline.specs.declared.Booked.{Booked}
 use Rattle.timeline.specs.Bookings.{bookings}
 use Rattle.timeline.specs.Valid.{valid}
-use Rattle.timeline.specs.Book.{refused, diary, insertBooking, bookReply}
+use Rattle.timeline.specs.Book.{bookRefusal, taken, diary, insertBooking, bookReply}
 use Rattle.timeline.proofs.ResourceTimeline.book.Statement.{statement}
 use Rattle.timeline.proofs.ResourceTimeline.book.Tie as tie
 
-module _ (t : ResourceTimeline) (s e u : ℕ) where
-  wrong : valid t ≡ false → refused 15 t ≡ bookReply t s e u
-  unfolding bookReply
-  wrong v = simp v
+neither : (p q : Bool) → p || q ≡ false → (p ≡ false) × (q ≡ false)
+neither true q e = (e, let z : _≡_ {A = ℕ} 0 1 = cc in absurd (omega arith))
+neither false q e = (refl, e)
 
-  module _ (v : valid t ≡ true) where
-    start-out : 2 ^ 42 < s → refused 1 t ≡ bookReply t s e u
-    unfolding bookReply
-    start-out h = simp (v, lt-ltb (2 ^ 42) s h)
+-- what no refusal says of a booking
+record Bookable (t : ResourceTimeline) (s e u : ℕ) : Type 0 where
+  keeps : valid t ≡ true
+  room : t .len < 64
+  order : s < e
+  range : e ≤ 2 ^ 42
+  some : 1 ≤ u
+  few : u ≤ 10000
 
-    module _ (s-in : s ≤ 2 ^ 42) where
-      end-out : 2 ^ 42 < e → refused 1 t ≡ bookReply t s e u
-      unfolding bookReply
-      end-out h = simp (v, le-ltb (2 ^ 42) s s-in, lt-ltb (2 ^ 42) e h)
+bookable : (t : ResourceTimeline) (s e u : ℕ) → bookRefusal t s e u ≡ 0 → Bookable t s e u
+unfolding bookRefusal
+bookable t s e u z =
+    let x0 = unrefused (not (valid t)) 14 _ z in
+    let x1 = unrefused (ltb (2 ^ 42) s || ltb (2 ^ 42) e) 0 _ (x0 .1) in
+    let x2 = unrefused (leb e s) 1 _ (x1 .1) in
+    let x3 = unrefused (ltb u 1 || ltb 10000 u) 2 _ (x2 .1) in
+    let x4 = unrefused (leb 64 (t .len)) 3 0 (x3 .1) in
+    record {
+      keeps = not-false _ (x0 .0);
+      room = leb-false 64 (t .len) (x4 .0);
+      order = leb-false e s (x2 .0);
+      range = ltb-false (2 ^ 42) e (neither (ltb (2 ^ 42) s) (ltb (2 ^ 42) e) (x1 .0) .1);
+      some = ltb-false u 1 (neither (ltb u 1) (ltb 10000 u) (x3 .0) .0);
+      few = ltb-false 10000 u (neither (ltb u 1) (ltb 10000 u) (x3 .0) .1);
+    }
 
-      module _ (e-in : e ≤ 2 ^ 42) where
-        turned : e ≤ s → refused 2 t ≡ bookReply t s e u
-        unfolding bookReply
-        turned h = simp (v, le-ltb (2 ^ 42) s s-in, le-ltb (2 ^ 42) e e-in, le-leb e s h)
+refused : (n : ℕ) (t more : ResourceTimeline) → (n ≡ 0 → ⊥) → record { refusal = n; timeline = t } ≡ taken n t more
+unfolding taken
+refused zero t more h = absurd (h refl)
+refused (suc n) t more h = refl
 
-        module _ (order : s < e) where
-          too-few : u < 1 → refused 3 t ≡ bookReply t s e u
-          unfolding bookReply
-          too-few h = simp (v, le-ltb (2 ^ 42) s s-in, le-ltb (2 ^ 42) e e-in, lt-leb e s order, lt-ltb u 1 h)
+booked : (n : ℕ) (t more : ResourceTimeline) → n ≡ 0 → record { refusal = 0; timeline = more } ≡ taken n t more
+unfolding taken
+booked zero t more h = refl
+booked (suc n) t more h = absurd (omega arith)
 
-          module _ (some : 1 ≤ u) where
-            too-many : 10000 < u → refused 3 t ≡ bookReply t s e u
-            unfolding bookReply
-            too-many h = simp (v, le-ltb (2 ^ 42) s s-in, le-ltb (2 ^ 42) e e-in, lt-leb e s order, le-ltb u 1 some, lt-ltb 10000 u h)
-
-            module _ (few : u ≤ 10000) where
-              full : 64 ≤ t .len → refused 4 t ≡ bookReply t s e u
-              unfolding bookReply
-              full h =
-                  simp (v, le-ltb (2 ^ 42) s s-in, le-ltb (2 ^ 42) e e-in, lt-leb e s order, le-ltb u 1 some, le-ltb 10000 u few, le-leb 64 (t .len) h)
-
-              taken : (r : ResourceTimeline) → t .len < 64
-                  → r ≡ diary (t .capacity) (t .calendar) (insertBooking (record { start = s; end = e; units = u }) (bookings t))
-                  → refused 0 r ≡ bookReply t s e u
-              unfolding bookReply
-              taken r h q =
-                  simp (v, le-ltb (2 ^ 42) s s-in, le-ltb (2 ^ 42) e e-in, lt-leb e s order, le-ltb u 1 some, le-ltb 10000 u few, lt-leb 64 (t .len) h, q)
-
-is-valid-requires : tie.Need-is-valid-requires
-is-valid-requires c κs = search needs
+book-refusal-requires : tie.Need-book-refusal-requires
+book-refusal-requires c κs = search needs
 
 returns : tie.Need-returns
-returns c = (wrong _ _ _ _ (sym (c .before .is-valid .ensures) ∙ not-true _ (c .if1 .taken)), λ h. h)
-
--- the diary keeps the rules
-keeps : (c : tie.Else1) → valid (c .before .before .args .self) ≡ true
-keeps c = sym (c .before .is-valid .ensures) ∙ not-false _ (c .if1 .left)
-
-returns-2 : tie.Need-returns-2
-returns-2 c = (start-out _ _ _ _ (keeps (c .before)) (omega arith), λ h. h)
-
-returns-3 : tie.Need-returns-3
-returns-3 c = (end-out _ _ _ _ (keeps (c .before .before)) (omega arith) (omega arith), λ h. h)
-
-returns-4 : tie.Need-returns-4
-returns-4 c = (turned _ _ _ _ (keeps (c .before .before .before)) (omega arith) (omega arith) (omega arith), λ h. h)
-
-returns-5 : tie.Need-returns-5
-returns-5 c = (too-few _ _ _ _ (keeps (c .before .before .before .before)) (omega arith) (omega arith) (omega arith) (omega arith), λ h. h)
-
-returns-6 : tie.Need-returns-6
-returns-6 c = (too-many _ _ _ _ (keeps (c .before .before .before .before .before)) (omega arith) (omega arith) (omega arith) (omega arith) (omega arith), λ h. h)
-
-returns-7 : tie.Need-returns-7
-returns-7 c = (full _ _ _ _ (keeps (c .before .before .before .before .before .before .before)) (omega arith) (omega arith) (omega arith) (omega arith) (omega arith) (omega arith), λ h. h)
+unfolding bookReply
+returns c = (rw (← c .before .book-refusal .ensures) (refused _ _ _ (omega arith)), λ h. h)
 
 insert-requires : tie.Need-insert-requires
-insert-requires c κs = (keeps (c .before .before .before .before .before .before .before), omega arith)
+insert-requires c κs =
+    let a = c .before .before .args in
+    let b = bookable (a .self) (a .start) (a .end) (a .units) (sym (c .before .book-refusal .ensures) ∙ omega arith) in
+    (b .keeps, (b .room, b .order, b .range, b .some, b .few))
 
-returns-8 : tie.Need-returns-8
-returns-8 c =
+returns-2 : tie.Need-returns-2
+unfolding bookReply
+returns-2 c =
     let e = c .insert .ensures in
-    (taken _ _ _ _ (keeps (c .before .before .before .before .before .before .before .before)) (omega arith) (omega arith) (omega arith) (omega arith) (omega arith) _ (omega arith) (e .0), λ h. e .1)
+    (rw (← c .before .before .book-refusal .ensures, e .0) (booked _ _ _ (omega arith)), λ h. e .1)
 
 pub book-spec : {M : Type 1} → statement M
-book-spec =
-    tie.close
-    (tie.spec
-    is-valid-requires
-    returns
-    returns-2
-    returns-3
-    returns-4
-    returns-5
-    returns-6
-    returns-7
-    insert-requires
-    returns-8)
+book-spec = tie.close (tie.spec book-refusal-requires returns insert-requires returns-2)
