@@ -15,10 +15,9 @@ use Rattle.activity.proofs.Meaning.{Bounded, duration-bounded}
 use Rattle.board.specs.declared.Resource.{Resource}
 use Rattle.board.specs.declared.Board.{Board}
 use Rattle.board.specs.Setups.{setupOn}
-use Rattle.board.specs.Resources.{resourceAt, numberAt, onBoard}
-use Rattle.board.specs.Transport.{greatest, anywhere, transportTo}
+use Rattle.board.specs.Resources.{resourceAt, numberAt}
+use Rattle.board.specs.Transport.{greatest, anywhere}
 use Rattle.board.specs.Valid.{valid, resourceRight}
-use Rattle.board.proofs.Facts.{rules}
 use Rattle.board.proofs.Meaning.{resource-rules, resource-of, transport-is, greatest-small, setup-small}
 use Rattle.scheduler.specs.Alone.{arrival}
 

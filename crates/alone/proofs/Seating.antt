@@ -1,11 +1,11 @@
 -- The places of a resource and its companions, one companion more; their diaries are the resource with its companions.
 use mathlib.Core.Path.{_≡_, refl, sym, ap, _∙_}
 use mathlib.Core.Bool.{Bool, true, false, cond}
-use mathlib.Core.List.{List, [], _∷_, _++_, map}
+use mathlib.Core.List.{List, [], _∷_, map}
 use mathlib.Core.Logic.{⊎-elim}
 use Prim.Native.Nat.{ℕ, zero, suc, _+_, _≤_, _<_}
 use native.Mathlib.Omega.{arith}
-use lib.ListN.{length, getD, set, take, replicate, length-set, getD-replicate}
+use lib.ListN.{length, getD, set, take, replicate, getD-replicate}
 use lib.Seq.{getD-set-same, getD-set-other}
 use Rattle.calendar.specs.Search.{Found, nothing, at}
 use Rattle.calendar.specs.Basics.{same-or-not, and-true, not-both}
@@ -16,7 +16,7 @@ use Rattle.board.specs.declared.Board.{Board}
 use Rattle.board.specs.Resources.{noDiary, lookup, isAt, onBoard, resourceAt}
 use Rattle.board.specs.Valid as board
 use Rattle.board.proofs.Meaning.{resource-of, lookup-means}
-use Rattle.scheduler.specs.Alone.{Share, oneUnit, diaryOf, resourceIn, companionsOf, withCompanions, earliestOf}
+use Rattle.scheduler.specs.Alone.{oneUnit, diaryOf, resourceIn, companionsOf, withCompanions, earliestOf}
 use Rattle.scheduler.specs.Shares.{sharesTo, Wanted}
 use Rattle.scheduler.specs.Arrays.{take-next, map-append, every-append, every-off}
 use Rattle.alone.specs.declared.Members.{Members}

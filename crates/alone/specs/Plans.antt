@@ -1,7 +1,7 @@
 -- What the code keeps of each resource alone, and the start that it answers with its companions.
-use Prim.Native.Nat.{ℕ, _+_, _≤_, _<_}
+use Prim.Native.Nat.{ℕ, _+_, _<_}
 use mathlib.Core.Path.{_≡_}
-use mathlib.Core.Bool.{Bool, true, false, cond}
+use mathlib.Core.Bool.{Bool, true, cond}
 use mathlib.Core.List.{List}
 use lib.ListN.{getD, length, take}
 use Rattle.calendar.specs.Search.{Found, nothing, at}

@@ -3,9 +3,9 @@ use mathlib.Core.Path.{_≡_, refl, sym, ap, _∙_}
 use mathlib.Core.Bool.{Bool, true, false, _&&_}
 use mathlib.Core.List.{List}
 use mathlib.Core.Logic.{⊎-elim}
-use Prim.Native.Nat.{ℕ, _+_, _*_, _^_, _≤_, _<_, max}
+use Prim.Native.Nat.{ℕ, _+_, _*_, _≤_, _<_, max}
 use native.Mathlib.Omega.{arith}
-use lib.ListN.{getD, set, length, replicate, length-set, length-replicate, getD-replicate}
+use lib.ListN.{getD, set, length, replicate, length-set, getD-replicate}
 use lib.Seq.{getD-set-same, getD-set-other}
 use lib.Dec.{leb}
 use borrow.Author.Tests.{leb-true}
@@ -20,7 +20,7 @@ use Rattle.board.specs.Valid as board
 use Rattle.alone.specs.declared.Plan.{Plan}
 use Rattle.alone.specs.Plans.{startWith}
 use Rattle.answering.specs.declared.Table.{Table}
-use Rattle.answering.specs.Tables.{PlannedFor, numberOf, foundAt, requirementAt, startFor, Kept, Answered}
+use Rattle.answering.specs.Tables.{PlannedFor, numberOf, foundAt, requirementAt, startFor, Kept}
 use Rattle.answering.proofs.Finding.{found-later}
 
 -- before anything is asked

@@ -3,16 +3,16 @@ use borrow.Author.Tests.{leb-true, eqb-true, lt-ltb, eq-eqb}
 use mathlib.Core.Bool.{Bool, true, false, cond, _&&_, _||_}
 use mathlib.Core.List.{List}
 use mathlib.Core.Logic.{_⊎_, ⊎-elim, inl, inr}
-use mathlib.Core.Path.{_≡_, refl, sym, _∙_}
+use mathlib.Core.Path.{_≡_, refl, _∙_}
 use Prim.Native.Nat.{ℕ, zero, suc, _+_, _*_, _/_, _%_, _^_, _≤_, _<_, max}
 use native.Mathlib.Nat.{eq-or-lt-of-le}
 use native.Mathlib.Omega.{arith}
 use lib.Dec.{leb, eqb}
 use lib.IntN.{ℤ, pos, negsuc}
-use lib.ListN.{length, getD}
+use lib.ListN.{getD}
 use Rattle.calendar.specs.Basics.{and-split, lt-or-ge}
 use Rattle.calendar.specs.Search.{at}
-use Rattle.board.specs.Resources.{noResource, resourcesOf, resourceAt, numberAt, lookupTo, lookup, onBoard}
+use Rattle.board.specs.Resources.{resourceAt, numberAt, lookupTo, lookup, onBoard}
 use Rattle.board.specs.Setups.{entryOr, matrixSetup, setupMs}
 use Rattle.board.specs.Transport.{bit, greatest, anywhere, transportTo}
 use Rattle.board.specs.Valid.{every, durationRight, entryRight, isZero, ownRight, entryCell, matrixRight, companionCell, companionsRight, lastRight, resourceRight, transportCell, transportRight, valid}
@@ -24,8 +24,7 @@ use Rattle.board.specs.declared.TransitionMatrix.{TransitionMatrix}
 use Rattle.board.proofs.Every.{every-at}
 use Rattle.board.proofs.Facts.{rules}
 use Rattle.board.proofs.Seeing.{lookup-below, lookup-number, nothing-of}
-use lib.Seq.{getD-take, length-take-le}
-use Rattle.calendar.specs.Meaning.{Least, least-none, least-is}
+use Rattle.calendar.specs.Meaning.{least-none, least-is}
 use Rattle.timeline.specs.Valid as timeline
 
 -- on a valid board a resource stands where its number is looked up

@@ -3,7 +3,7 @@ use Prim.Native.Nat.{ℕ}
 use mathlib.Core.Path.{_≡_, refl}
 use mathlib.Core.List.{[], _∷_}
 use lib.ListN.{replicate, set}
-use lib.IntN.{pos, negsuc}
+use lib.IntN.{pos}
 use Rattle.calendar.specs.Search.{leastFrom}
 use Rattle.board.specs.declared.TransitionMatrix.{TransitionMatrix}
 use Rattle.board.specs.declared.LastCategory.the-variants.{Nothing, Category}

@@ -7,21 +7,19 @@ use native.Mathlib.Nat.{eq-or-lt-of-le}
 use native.Mathlib.Omega.{arith}
 use mathlib.Core.Logic.{⊎-elim}
 use Rattle.calendar.specs.Basics.{lt-or-ge}
-use lib.ListN.{getD}
-use lib.Dec.{leb, ltb, eqb}
+use lib.Dec.{eqb}
 use borrow.Author.Tests.{lt-ltb, le-ltb, le-leb, lt-leb, eq-eqb, ne-eqb}
 use Rattle.calendar.specs.Search.{Found, nothing, at}
 use Rattle.records.specs.Numbers.{little}
 use Rattle.activity.specs.declared.ResourceRequirement.{ResourceRequirement}
-use Rattle.activity.specs.declared.DurationAnswer.{DurationAnswer}
-use Rattle.activity.specs.Check.{DurationReply, durationReply, replyOf}
+use Rattle.activity.specs.Check.{DurationReply, durationReply}
 use Rattle.activity.specs.Serving.{serves}
 use Rattle.board.specs.declared.LastCategory.{LastCategory}
 use Rattle.board.specs.declared.LastCategory.the-variants.{Nothing, Category}
 use Rattle.board.specs.declared.Board.{Board}
-use Rattle.board.specs.Resources.{resourceAt, lookup, isAt, onBoard}
+use Rattle.board.specs.Resources.{resourceAt, lookup, isAt}
 use Rattle.board.specs.Setups.{setupMs}
-use Rattle.board.specs.Transport.{greatest, anywhere, transportTo}
+use Rattle.board.specs.Transport.{greatest, anywhere}
 use Rattle.board.specs.Places.{placeOf}
 use Rattle.board.specs.Valid.{valid, lastRight}
 use Rattle.board.proofs.Facts.{off-above, rules}
@@ -36,7 +34,7 @@ use Rattle.board_queries.specs.declared.Answer.the-variants.{Nothing as 
 use Rattle.board_records.specs.Bodies.{byte, fixedLen, lenOf, whole, bodyLen}
 use Rattle.board_records.proofs.Lengths.{unknown, of-fixed, there}
 use Rattle.board_records.specs.Records.{stepReply}
-use Rattle.board_queries.specs.Asks.{placeRefusal, Located, durationLine, refusedOr, placeIn, lastOf, setupReply, transportReply, servesReply, heldAt, askLen, requirementOf, askReply, runLen, told, ends, turnReply}
+use Rattle.board_queries.specs.Asks.{placeRefusal, Located, durationLine, refusedOr, placeIn, lastOf, setupReply, transportReply, servesReply, heldAt, askLen, askReply, runLen, told, ends, turnReply}
 
 -- looking up a number
 module _ (b : Board) (number : ℕ) where

@@ -1,19 +1,19 @@
 -- What the parts of a record's doing answer, in the words of the definitions.
-use mathlib.Core.Path.{_≡_, refl, sym, ap, _∙_}
-use mathlib.Core.Bool.{Bool, true, false}
+use mathlib.Core.Path.{_≡_, refl}
+use mathlib.Core.Bool.{false}
 use mathlib.Core.List.{List}
 use Prim.Native.Nat.{ℕ, _+_, _≤_, _<_}
 use native.Mathlib.Omega.{arith}
-use lib.ListN.{getD, take, drop}
+use lib.ListN.{take, drop}
 use lib.IntN.{ℤ, pos}
-use lib.Dec.{leb, ltb, eqb}
-use borrow.Author.Tests.{lt-ltb, le-ltb, le-leb, lt-leb, eq-eqb, ne-eqb}
+use lib.Dec.{leb, eqb}
+use borrow.Author.Tests.{le-leb, lt-leb, eq-eqb, ne-eqb}
 use Rattle.timeline.specs.declared.ResourceTimeline.{ResourceTimeline}
 use Rattle.timeline.specs.Book.{newDiary}
 use Rattle.records.specs.Numbers.{little}
 use Rattle.records.specs.Lines.{lineOf}
 use Rattle.records.specs.declared.Stepped as records
-use Rattle.records.specs.Records.{bodyLen, steppedOf, recordDoes}
+use Rattle.records.specs.Records.{steppedOf, recordDoes}
 use Rattle.board.specs.declared.Board.{Board}
 use Rattle.board.specs.declared.Entered.{Entered}
 use Rattle.board.specs.Enter.{addResourceReply, setMatrixReply, setTransitionReply, setInitialReply, setTransportReply}

@@ -1,10 +1,10 @@
 -- The order in hand, by the parts of its records.
-use mathlib.Core.Path.{_≡_, refl, sym, ap, _∙_}
-use mathlib.Core.Bool.{Bool, true, false, cond}
+use mathlib.Core.Path.{_≡_, refl}
+use mathlib.Core.Bool.{true, false}
 use mathlib.Core.List.{List}
 use Prim.Native.Nat.{ℕ, _+_, _≤_, _<_}
 use native.Mathlib.Omega.{arith}
-use lib.ListN.{getD, set}
+use lib.ListN.{set}
 use lib.IntN.{pos}
 use lib.Dec.{ltb, eqb}
 use lib.Ieee.{Float, binary64, ofBits}
@@ -22,8 +22,6 @@ use Rattle.activity.specs.declared.Release.{Release}
 use Rattle.activity.specs.declared.Release.the-variants.{Absent, At}
 use Rattle.activity.specs.declared.Activity.{Activity}
 use Rattle.board_records.specs.declared.Desk.{Desk}
-use Rattle.board_records.specs.declared.Stepped.{Stepped}
-use Rattle.board_records.specs.declared.order.Ordered.{Ordered}
 use Rattle.board_records.specs.Bodies.{byte}
 use Rattle.board_records.specs.Desk.{orderWith}
 use Rattle.board_records.specs.Orders.{durationAt, releaseOf, orderBy, orderAt, flagAbove, orderDoes, withRequirement, requirementAt, withTiming, timingAt, partReply}

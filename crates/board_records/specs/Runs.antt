@@ -1,7 +1,7 @@
 -- Small runs on the definitions.
 use mathlib.Core.Path.{_≡_, refl}
-use mathlib.Core.List.{List, [], _∷_}
-use lib.IntN.{ℤ, pos, negsuc}
+use mathlib.Core.List.{[], _∷_}
+use lib.IntN.{pos, negsuc}
 use Rattle.board_records.specs.Bodies.{fixedLen, lenOf, whole, bodyLen}
 use Rattle.board_records.specs.Records.{signed}
 

@@ -2,33 +2,23 @@
 use mathlib.Core.Path.{_≡_, refl, sym, ap, _∙_, subst}
 use mathlib.Core.Bool.{Bool, true, false, cond}
 use mathlib.Core.List.{List, [], _∷_, _++_, map, append-assoc}
-use Prim.Native.Nat.{ℕ, zero, suc, _+_, _-_, _^_, _≤_, _<_, max}
+use Prim.Native.Nat.{ℕ, zero, suc, _+_, _-_, _^_, _≤_, _<_}
 use native.Mathlib.Omega.{arith}
 use lib.ListN.{getD, length, take}
-use lib.Seq.{getD-take, length-take-le, take-suc}
-use Rattle.calendar.specs.Search.{Found, nothing, at}
-use Rattle.calendar.specs.Meaning.{least-found}
+use lib.Seq.{take-suc}
+use Rattle.calendar.specs.Search.{Found, nothing}
 use Rattle.timeline.proofs.Rules as timeline-rules
-use Rattle.timeline.proofs.Stepping.{last-range}
 use Rattle.activity.specs.declared.ResourceRequirement.{ResourceRequirement}
 use Rattle.activity.specs.declared.Activity.{Activity}
 use Rattle.activity.specs.Serving.{serves}
-use Rattle.activity.specs.Check.{every}
-use Rattle.activity.proofs.Judging.{accepted}
-use Rattle.activity.proofs.Meaning.{duration-bounded}
 use Rattle.board.specs.declared.Resource.{Resource}
 use Rattle.board.specs.declared.Board.{Board}
-use Rattle.board.specs.Resources.{noResource, resourcesOf, resourceAt, onBoard}
+use Rattle.board.specs.Resources.{noResource, resourceAt}
 use Rattle.board.specs.Valid as board
-use Rattle.board.proofs.Meaning.{resource-of, greatest-small, setup-small}
-use Rattle.scheduler.specs.Alone.{Share, allStart, lastOf, earliestOf, companionsOf, withCompanions, durationAlone, spanOf, arrival, startAlone}
+use Rattle.scheduler.specs.Alone.{durationAlone, startAlone}
 use Rattle.scheduler.specs.Choosing as scheduler
-use Rattle.scheduler.specs.Arrays.{each-at}
-use Rattle.scheduler.specs.Lists.{Each, each-end, each-on, append-nil}
-use Rattle.scheduler.specs.Together.{Sound}
-use Rattle.scheduler.specs.Latest.{last-small, together-answers, together-is}
-use Rattle.scheduler.specs.Ruled.{all-kept, all-there}
-use Rattle.scheduler.specs.Answering.{Kept, Answers}
+use Rattle.scheduler.specs.Lists.{Each, each-end, append-nil}
+use Rattle.scheduler.specs.Ruled.{all-there}
 use Rattle.alone.specs.declared.Plan.{Plan}
 use Rattle.alone.specs.Plans.{startWith, Planned}
 use Rattle.choosing.specs.declared.rank.Candidate.{Candidate}

@@ -9,11 +9,10 @@ use lib.ListN.{length, getD, set, take, replicate, getD-replicate}
 use lib.Dec.{leb, ltb, eqb}
 use lib.Seq.{getD-set-same, getD-set-other}
 use borrow.Author.Tests.{ltb-true, lt-ltb, le-ltb, lt-leb, le-leb, eq-eqb, eqb-true}
-use Rattle.calendar.specs.Search.{Found, nothing, at}
 use Rattle.calendar.specs.Basics.{and-split, and-false, same-or-not}
 use Rattle.activity.specs.Check.{every}
 use Rattle.board.specs.declared.Board.{Board}
-use Rattle.board.specs.Resources.{resourceAt, lookup, isAt, onBoard}
+use Rattle.board.specs.Resources.{resourceAt, isAt, onBoard}
 use Rattle.board.specs.Valid.{valid}
 use Rattle.board.proofs.Facts.{rules}
 use Rattle.scheduler.specs.Alone.{diaryOf}

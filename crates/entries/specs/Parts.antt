@@ -1,7 +1,7 @@
 -- What the code takes from the board for the entries of those held.
 use Prim.Native.Nat.{ℕ, _≤_, _<_}
 use mathlib.Core.Path.{_≡_}
-use mathlib.Core.Bool.{Bool, true, false, cond}
+use mathlib.Core.Bool.{false, cond}
 use mathlib.Core.List.{List}
 use lib.ListN.{length, getD, take}
 use Rattle.board.specs.declared.Board.{Board}
@@ -9,7 +9,7 @@ use Rattle.board.specs.Resources.{resourceAt}
 use Rattle.board.specs.Setups.{setupOn}
 use Rattle.scheduler.specs.declared.Entry.{Entry}
 use Rattle.scheduler.specs.declared.Hold.{Hold}
-use Rattle.scheduler.specs.Fitting.{numbersOf, allCompanions}
+use Rattle.scheduler.specs.Fitting.{allCompanions}
 use Rattle.scheduler.specs.Lists.{Each}
 use Rattle.scheduler.specs.Holds.{noHold, heldTo}
 use Rattle.entries.specs.declared.Parts.{Parts}

@@ -1,6 +1,6 @@
 -- One diary more: free on all, calm on all, and the calendars of all.
 use mathlib.Core.Path.{_≡_, refl, sym, ap, _∙_, subst}
-use mathlib.Core.Bool.{Bool, true, false, _&&_, cond}
+use mathlib.Core.Bool.{Bool, true, false, _&&_}
 use mathlib.Core.List.{List, [], _∷_, _++_, map}
 use Prim.Native.Nat.{ℕ, zero, suc, _+_, _-_, _≤_, _<_}
 use native.Mathlib.Omega.{arith}
@@ -17,7 +17,7 @@ use Rattle.scheduler.specs.Alone.{Share}
 use Rattle.scheduler.specs.Fitting.{calendarOf, allFree}
 use Rattle.scheduler.specs.Arrays.{map-append}
 use Rattle.scheduler.specs.Shares.{shareAt, sharesTo}
-use Rattle.scheduler.specs.Lists.{Each, each-end, each-on, each-append}
+use Rattle.scheduler.specs.Lists.{each-end, each-on, each-append}
 use Rattle.scheduler.specs.Together.{Calm}
 
 pub shares-next : (ts : List ResourceTimeline) (us : List ℕ) (i : ℕ) → sharesTo ts us (i + 1) ≡ sharesTo ts us i ++ (shareAt ts us i ∷ [])

@@ -1,22 +1,17 @@
 -- Resumable work on several diaries together: the search from event to event finds the least start.
 use mathlib.Core.Path.{_≡_, refl, sym, ap, _∙_}
 use mathlib.Core.Bool.{Bool, true, false, cond}
-use mathlib.Core.List.{List, [], _∷_, map}
-use Prim.Native.Nat.{ℕ, zero, suc, _+_, _-_, _^_, _≤_, _<_, max}
+use mathlib.Core.List.{List, [], map}
+use Prim.Native.Nat.{ℕ, suc, _-_, _^_, _≤_, _<_}
 use native.Mathlib.Omega.{arith}
-use Rattle.calendar.specs.Basics.{not-both, no-way}
+use Rattle.calendar.specs.Basics.{not-both}
 use Rattle.calendar.specs.Search.{Found, nothing, at}
 use Rattle.calendar.specs.Work.{joint, lastChange, jointEnd}
 use Rattle.calendar.specs.Meaning.{joint-changeless, joint-end-found, work-end-back}
-use Rattle.timeline.specs.Earliest.{lastEvent}
-use Rattle.timeline.specs.Valid.{valid}
 use Rattle.timeline.specs.Ask as asking
-use Rattle.timeline.proofs.Rules.{rules}
 use Rattle.timeline.proofs.Searching.{Sought, sought-on, sought-found, sought-none}
-use Rattle.timeline.proofs.Stepping.{last-range}
 use Rattle.scheduler.specs.Alone.{Share, lastOf}
 use Rattle.scheduler.specs.Fitting.{calendarOf, allFree, freeToEnd}
-use Rattle.scheduler.specs.Lists.{Each, each-end, each-on}
 use Rattle.scheduler.specs.Together.{Sound, Calm, last-calm}
 use Rattle.scheduler.specs.Latest.{last-small}
 use Rattle.scheduler.specs.Closing.{joint-back, all-free-back}

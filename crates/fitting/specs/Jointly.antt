@@ -1,6 +1,6 @@
 -- Resumable work on several diaries together: the least start over their joint working time, all free to the joint end.
 use Prim.Native.Nat.{ℕ, suc, _-_}
-use mathlib.Core.Bool.{Bool, cond}
+use mathlib.Core.Bool.{cond}
 use mathlib.Core.List.{List, map}
 use Rattle.calendar.specs.Search.{Found, nothing, at, leastFrom}
 use Rattle.calendar.specs.Work.{jointEnd}

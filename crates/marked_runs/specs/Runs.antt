@@ -4,9 +4,7 @@ use mathlib.Core.Bool.{true, false}
 use mathlib.Core.List.{List, [], _∷_, _++_, map}
 use Prim.Native.Nat.{ℕ, _-_}
 use lib.ListN.{replicate, length}
-use lib.IntN.{pos, negsuc}
-use lib.Ieee.{Float, fin, binary64, ofBits, le, eq, mul, div, ofInt}
-use Rattle.calendar.specs.declared.Calendar.{Calendar}
+use lib.Ieee.{Float, le, eq, mul, div, ofInt}
 use Rattle.calendar.specs.Search.{leastFrom}
 use Rattle.calendar.specs.Spans.{spansFrom, any, holds, meets, contains}
 use Rattle.calendar.specs.Valid as calendar
@@ -21,11 +19,8 @@ use Rattle.timeline.specs.Earliest.{fitsAt, freeTo, startsAt, lastEvent, earlie
 use Rattle.timeline.specs.Book.{insertBooking, latestEnds, diary, bookRefusal, taken, bookReply}
 use Rattle.timeline.specs.Ask as asking
 use Rattle.timeline.specs.Runs.{touching, broken}
-use Rattle.activity.specs.declared.ActivityDuration.{ActivityDuration}
-use Rattle.activity.specs.declared.ResourceTiming.{ResourceTiming}
-use Rattle.activity.specs.declared.ResourceTiming.the-variants.{Nothing, Speed}
+use Rattle.activity.specs.declared.ResourceTiming.the-variants.{Nothing}
 use Rattle.activity.specs.declared.Timed.{Timed}
-use Rattle.activity.specs.declared.ResourceRequirement.{ResourceRequirement}
 use Rattle.activity.specs.declared.Release.the-variants.{Absent}
 use Rattle.activity.specs.declared.Activity.{Activity}
 use Rattle.speeds.specs.Speeds.{halfUp, roundAway, processAt, isSpeed}
@@ -34,7 +29,6 @@ use Rattle.activity.specs.Serving.{bit, covers, candidate, serves}
 use Rattle.activity.specs.Ready.{readyOf}
 use Rattle.activity.specs.Check.{every, releaseRight, short, quantity, quantitiesRight, usageRight, timesRight, activityRefusal}
 use Rattle.activity.specs.Runs.{two, threeHalves, half, lasting, at}
-use Rattle.board.specs.declared.Resource.{Resource}
 use Rattle.board.specs.declared.Board.{Board}
 use Rattle.board.specs.Resources as resources
 use Rattle.board.specs.Setups.{entryOr, matrixSetup, setupMs}
@@ -45,7 +39,7 @@ use Rattle.scheduler.specs.Alone.{canStart, allStart, lastOf, earliestOf, resou
 use Rattle.scheduler.specs.Choosing.{comesFirst, insert, sortInto, answer, candidates, holdFirst, behind, round, greatestStart, settle, rounds, choosing}
 use Rattle.scheduler.specs.declared.Entry.{Entry}
 use Rattle.scheduler.specs.Fitting.{durationTogether, greatestSetup, among, joinEach, allCompanions, companionEntries, entriesOf, spanTogether, fitsAll, allFree, freeToEnd, startsAll, suits, lastAll, fitting, endOf}
-use Rattle.scheduler.specs.Placing.{Reply, placed, chosenNone, none, refused, ended, started, fitted, fitChosen, timeOnly, byRequirements, placing, refusedOr, placeRefusal, placeReply}
+use Rattle.scheduler.specs.Placing.{Reply, placed, none, ended, started, fitted, fitChosen, timeOnly, byRequirements, placing, refusedOr, placeRefusal, placeReply}
 
 -- a marked run: an ask of a diary, a process time worked out at a speed, an order placed on a board
 pub data Run : Type 0 where

@@ -1,9 +1,8 @@
 -- Demand 3 is not empty: two boards, an order and a placement that meet its hypotheses. Resource 0 is booked from 0 to 100, and on the
 -- second board from 10 to 40 as well; the order is placed on resource 1 at 0 on both.
 use mathlib.Core.Path.{_≡_, refl}
-use mathlib.Core.Bool.{Bool, true, false}
-use mathlib.Core.List.{List, [], _∷_}
-use Prim.Native.Nat.{ℕ, zero, suc, _+_, _<_, _≤_}
+use mathlib.Core.List.{[], _∷_}
+use Prim.Native.Nat.{ℕ, zero, suc, _<_}
 use native.Mathlib.Omega.{arith}
 use lib.ListN.{replicate}
 use Rattle.calendar.specs.Search.{leastFrom}
@@ -18,10 +17,9 @@ use Rattle.board.specs.declared.Board.{Board}
 use Rattle.board.specs.Resources as resources
 use Rattle.board.specs.Valid as board
 use Rattle.scheduler.specs.Alone.{resourceIn}
-use Rattle.scheduler.specs.declared.Entry.{Entry}
-use Rattle.scheduler.specs.Placing.{Reply, placed, placeReply}
+use Rattle.scheduler.specs.Placing.{placed, placeReply}
 use Rattle.scheduler.specs.Lists.{Each, each-end, each-on}
-use Rattle.scheduler.specs.Alike.{AlikeDiary, AlikeResource, Alike, NoExtra}
+use Rattle.scheduler.specs.Alike.{AlikeResource, Alike, NoExtra}
 use Rattle.scheduler.specs.Lending.{same-alike}
 use Rattle.scheduler.specs.Demand3.{demand-3}
 use Rattle.marked_runs.specs.Runs.{boardOf, booked, free1, order, entry, first-placed}

@@ -9,7 +9,7 @@ use Rattle.records.specs.Numbers.{little}
 use Rattle.scheduler.specs.Placing.{Reply, slateAfter, placeReply}
 use Rattle.scheduler.specs.Committing.{commitReply}
 use Rattle.placing.specs.declared.Placement.{Placement}
-use Rattle.placing.specs.declared.Placement.the-variants.{Placed, Chosen, Nothing, Refused}
+use Rattle.placing.specs.declared.Placement.the-variants.{Placed, ChosenNone, None, Refused}
 use Rattle.placing.specs.Told as placed
 use Rattle.board_records.specs.declared.Desk.{Desk}
 use Rattle.board_records.specs.declared.Stepped.{Stepped}
@@ -29,8 +29,8 @@ placing d slate bs i = placeReply (d .board) (d .activity) (little bs i 8) (leng
 
 unfoldable pub answerOf : Placement → Answer
 answerOf (Placed t s e n) = answer.Placed t s e n
-answerOf (Chosen t) = answer.Chosen t
-answerOf Nothing = answer.None
+answerOf (ChosenNone t) = answer.Chosen t
+answerOf None = answer.None
 answerOf (Refused n) = answer.Refused n
 
 -- choosing instant, start, end and the count of entries; 'chosen, none' with the choosing instant; none; a refusal

@@ -56,8 +56,8 @@ fn answer_of(p: Placement) -> Answer
             end,
             count,
         ),
-        Placement::Chosen(choosing) => Answer::Chosen(choosing),
-        Placement::Nothing => Answer::None,
+        Placement::ChosenNone(choosing) => Answer::Chosen(choosing),
+        Placement::None => Answer::None,
         Placement::Refused(n) => Answer::Refused(n),
     }
 }

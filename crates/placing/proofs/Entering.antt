@@ -1,10 +1,10 @@
 -- The entries of a choice are for resources on the board, with a unit or more each.
-use mathlib.Core.Path.{_≡_, refl, sym, ap, _∙_, subst}
-use mathlib.Core.Bool.{Bool, true, false}
-use mathlib.Core.List.{List, [], _∷_, _++_, map}
+use mathlib.Core.Path.{_≡_, refl, sym, subst}
+use mathlib.Core.Bool.{true}
+use mathlib.Core.List.{List, [], _∷_, map}
 use Prim.Native.Nat.{ℕ, _≤_, _<_}
 use native.Mathlib.Omega.{arith}
-use lib.ListN.{length, getD, take, length-map}
+use lib.ListN.{length, getD, take}
 use lib.Seq.{getD-take, length-take-le}
 use Rattle.calendar.specs.Search.{Found, nothing, at}
 use Rattle.timeline.specs.Valid as timeline
@@ -17,9 +17,9 @@ use Rattle.board.specs.Resources.{noResource, lookup, isAt, onBoard}
 use Rattle.board.specs.Valid.{valid}
 use Rattle.scheduler.specs.declared.Entry.{Entry}
 use Rattle.scheduler.specs.declared.Hold.{Hold}
-use Rattle.scheduler.specs.Alone.{Share, diaryOf, resourceIn}
-use Rattle.scheduler.specs.Choosing.{Held, Choice, chosen, choosing}
-use Rattle.scheduler.specs.Fitting.{heldEntry, heldEntries, durationTogether, companionEntry, companionEntries, joinEach, numbersOf, allCompanions, entriesOf, shareOf, sharesOf}
+use Rattle.scheduler.specs.Alone.{diaryOf, resourceIn}
+use Rattle.scheduler.specs.Choosing.{Held, chosen, choosing}
+use Rattle.scheduler.specs.Fitting.{heldEntries, durationTogether, companionEntry, companionEntries, joinEach, numbersOf, allCompanions, entriesOf, sharesOf}
 use Rattle.scheduler.specs.Holds.{noHold, heldOf, heldTo, OnPlaces}
 use Rattle.scheduler.specs.Lists.{Each, each-end, each-on, each-append}
 use Rattle.scheduler.specs.Arrays.{each-at, each-cells}

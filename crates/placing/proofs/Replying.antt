@@ -1,22 +1,22 @@
 -- The reply, case by case.
 use mathlib.Core.Path.{_≡_, refl, sym, ap, _∙_}
-use mathlib.Core.Bool.{Bool, true, false, cond}
+use mathlib.Core.Bool.{true, false}
 use mathlib.Core.List.{List, [], _∷_}
-use Prim.Native.Nat.{ℕ, zero, suc, _≤_, _<_}
+use Prim.Native.Nat.{ℕ, zero, suc, _≤_}
 use native.Mathlib.Omega.{arith}
 use lib.ListN.{length, take}
 use Rattle.activity.specs.declared.ResourceRequirement.{ResourceRequirement}
 use Rattle.activity.specs.declared.Activity.{Activity}
 use Rattle.activity.specs.Ready.{readyOf}
 use Rattle.activity.specs.Check.{requirementsOf, activityRefusal}
-use Rattle.activity.proofs.Judging.{Accepted, accepted, accepted-is}
+use Rattle.activity.proofs.Judging.{accepted, accepted-is}
 use Rattle.activity.proofs.Meaning.{ready-range}
 use Rattle.board.specs.declared.Board.{Board}
 use Rattle.board.specs.Valid.{valid}
 use Rattle.scheduler.specs.Alone.{spanOf}
 use Rattle.scheduler.specs.Choosing.{Held, Choice, noChoice, chosen, choosing}
 use Rattle.scheduler.specs.Fitting.{entriesOf, spanTogether}
-use Rattle.scheduler.specs.Placing.{Reply, placed, chosenNone, none, refused, fitted, fitChosen, timeOnly, byRequirements, placing, refusedOr, placeRefusal, placeReply}
+use Rattle.scheduler.specs.Placing.{Reply, none, refused, fitted, fitChosen, timeOnly, byRequirements, placing, refusedOr, placeReply}
 use Rattle.scheduler.specs.Holds.{heldTo}
 use Rattle.choosing.specs.declared.Choice as code
 use Rattle.choosing.specs.Rounds.{choiceOf}

@@ -1,8 +1,8 @@
 -- The closing fit in the words of the definition, and the refusals.
 use mathlib.Core.Path.{_≡_, refl, sym, ap, _∙_}
-use mathlib.Core.Bool.{Bool, true, false, not, _||_, cond}
+use mathlib.Core.Bool.{Bool, true, false, not, cond}
 use mathlib.Core.List.{List, [], _∷_, _++_, map}
-use Prim.Native.Nat.{ℕ, zero, suc, _+_, _-_, _^_, _≤_, _<_, max}
+use Prim.Native.Nat.{ℕ, suc, _+_, _-_, _^_, _≤_, max}
 use native.Mathlib.Omega.{arith}
 use borrow.Author.Tests.{not-false, ltb-false}
 use lib.ListN.{length, drop}
@@ -14,7 +14,7 @@ use Rattle.calendar.specs.Meaning.{least-found, least-same}
 use Rattle.calendar.specs.Search.{Found, nothing, at, leastFrom}
 use Rattle.calendar.specs.Work.{lastChange, jointEnd}
 use Rattle.timeline.specs.Ask as asking
-use Rattle.timeline.specs.Bookings.{bookings, latestEnd}
+use Rattle.timeline.specs.Bookings.{latestEnd}
 use Rattle.timeline.specs.Book.{diary}
 use Rattle.timeline.specs.Earliest.{lastEvent}
 use Rattle.timeline.proofs.Keeping.{bookings-diary}
@@ -32,7 +32,7 @@ use Rattle.scheduler.specs.Together.{Sound}
 use Rattle.scheduler.specs.Owning.{ownShare, suitsOn, suits-on}
 use Rattle.fitting.specs.Jointly.{jointly, ended}
 use Rattle.placing.specs.Told.{unbroken, closing, orderRefusal, told}
-use Rattle.placing.specs.declared.Placement.the-variants.{Placed, Chosen}
+use Rattle.placing.specs.declared.Placement.the-variants.{Placed, ChosenNone}
 
 -- nothing changes on the order's own calendar but its own edges
 own-last : (own : Calendar) (xs : List Share) → lastOf (ownShare own ∷ xs) ≡ lastAll xs own
@@ -112,7 +112,7 @@ module _ (b : Board) (a : Activity) (span t : ℕ) (es : List Entry) (n : ℕ) (
       let w : fitted b a span t es ≡ placed t s d es = fitted-is ∙ ap (replyFrom t es) h in
       (sym (ap told w ∙ ap (Placed t s d) long), sym (ap (λ (x : Reply). slateAfter x slate) w ∙ ap (λ (k : ℕ). map rowOf es ++ drop k slate) long))
 
-  pub fitted-none : r ≡ asking.none → (Chosen t ≡ told (fitted b a span t es)) × (slate ≡ slateAfter (fitted b a span t es) slate)
+  pub fitted-none : r ≡ asking.none → (ChosenNone t ≡ told (fitted b a span t es)) × (slate ≡ slateAfter (fitted b a span t es) slate)
   unfolding replyFrom told slateAfter
   fitted-none h =
       let w : fitted b a span t es ≡ chosenNone t = fitted-is ∙ ap (replyFrom t es) h in

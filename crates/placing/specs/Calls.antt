@@ -2,7 +2,7 @@
 use Prim.Native.Nat.{ℕ, _≤_}
 use mathlib.Core.Path.{_≡_, refl, sym, ap, _∙_, subst}
 use mathlib.Core.Bool.{Bool, true, false}
-use mathlib.Core.List.{List, [], _∷_, _++_, map}
+use mathlib.Core.List.{List, [], _∷_, map}
 use lib.ListN.{length, getD, take, drop, length-map}
 use lib.Seq.{take-at}
 use lib.Dec.{ltb}
@@ -16,7 +16,7 @@ use Rattle.scheduler.specs.Lists.{Each, each-end, each-on}
 use Rattle.scheduler.specs.Alike.{Alike, NoExtra}
 use Rattle.scheduler.specs.Demand3.{Demand3, demand-3}
 use Rattle.placing.specs.declared.Placement.{Placement}
-use Rattle.placing.specs.declared.Placement.the-variants.{Placed, Chosen, Nothing, Refused}
+use Rattle.placing.specs.declared.Placement.the-variants.{Placed, ChosenNone, None, Refused}
 use Rattle.placing.specs.Told.{told}
 
 -- a call on a board with an order, from ready on, over a slate: its answer and the slate afterwards (the contract of `place_activity`)
@@ -27,15 +27,15 @@ pub record Called (b : Board) (a : Activity) (ready : ℕ) (slate : List (List �
 -- the choosing instant that an answer tells
 unfoldable pub instantOf : Placement → Found
 instantOf (Placed t s e n) = at t
-instantOf (Chosen t) = at t
-instantOf Nothing = nothing
+instantOf (ChosenNone t) = at t
+instantOf None = nothing
 instantOf (Refused n) = nothing
 
 -- the refusal that it tells, 0 for none
 unfoldable pub refusedBy : Placement → ℕ
 refusedBy (Placed t s e n) = 0
-refusedBy (Chosen t) = 0
-refusedBy Nothing = 0
+refusedBy (ChosenNone t) = 0
+refusedBy None = 0
 refusedBy (Refused n) = n
 
 -- no extra is on the resource of a row
@@ -69,32 +69,32 @@ told-refusal (refused n) = refl
 
 isPlaced : Placement → Bool
 isPlaced (Placed t s e n) = true
-isPlaced (Chosen t) = false
-isPlaced Nothing = false
+isPlaced (ChosenNone t) = false
+isPlaced None = false
 isPlaced (Refused n) = false
 
 startIn : Placement → ℕ
 startIn (Placed t s e n) = s
-startIn (Chosen t) = 0
-startIn Nothing = 0
+startIn (ChosenNone t) = 0
+startIn None = 0
 startIn (Refused n) = 0
 
 endIn : Placement → ℕ
 endIn (Placed t s e n) = e
-endIn (Chosen t) = 0
-endIn Nothing = 0
+endIn (ChosenNone t) = 0
+endIn None = 0
 endIn (Refused n) = 0
 
 countIn : Placement → ℕ
 countIn (Placed t s e n) = n
-countIn (Chosen t) = 0
-countIn Nothing = 0
+countIn (ChosenNone t) = 0
+countIn None = 0
 countIn (Refused n) = 0
 
 instantIn : Placement → ℕ
 instantIn (Placed t s e n) = t
-instantIn (Chosen t) = t
-instantIn Nothing = 0
+instantIn (ChosenNone t) = t
+instantIn None = 0
 instantIn (Refused n) = 0
 
 -- a placement told is one in the definition

@@ -18,12 +18,12 @@ use Rattle.scheduler.specs.Placing.{Reply, placed, chosenNone, none, refused}
 use Rattle.fitting.specs.Jointly.{jointly, ended}
 use Rattle.entries.specs.Parts.{noEntry}
 use Rattle.placing.specs.declared.Placement.{Placement}
-use Rattle.placing.specs.declared.Placement.the-variants.{Placed, Chosen, Nothing, Refused}
+use Rattle.placing.specs.declared.Placement.the-variants.{Placed, ChosenNone, None, Refused}
 
 unfoldable pub told : Reply → Placement
 told (placed t s e es) = Placed t s e (length es)
-told (chosenNone t) = Chosen t
-told none = Nothing
+told (chosenNone t) = ChosenNone t
+told none = None
 told (refused n) = Refused n
 
 -- an unbroken start with its end

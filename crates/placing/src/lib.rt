@@ -25,8 +25,8 @@ ghost use Rattle.placing.specs.Told.{closing, Entered, orderRefusal, tol
 // What placing answers: choosing instant, start, end and how many entries; 'chosen, none' with the choosing instant; none; a refusal.
 pub enum Placement {
     Placed(u64, u64, u64, usize),
-    Chosen(u64),
-    Nothing,
+    ChosenNone(u64),
+    None,
     Refused(u8),
 }
 
@@ -82,7 +82,7 @@ fn fitted(
             write(slate, e);
             Placement::Placed(t, s, end, e.count)
         }
-        Fit::Nothing => Placement::Chosen(t),
+        Fit::Nothing => Placement::ChosenNone(t),
     }
 }
 
@@ -132,7 +132,7 @@ pub fn place_activity(b: Board, a: Activity, ready: u64, slate: &mut [[u64; 4]])
     }
     let c = choosing::choose(b, a, from, places);
     if !c.chosen {
-        return Placement::Nothing;
+        return Placement::None;
     }
     let held = c.held;
     let x = entries::entries_of(b, a, held, c.count);

@@ -1,13 +1,13 @@
 -- What the parts of a record's doing answer, in the words of the definitions.
-use mathlib.Core.Path.{_≡_, refl, sym, ap, _∙_}
-use mathlib.Core.Bool.{Bool, true, false}
+use mathlib.Core.Path.{_≡_}
+use mathlib.Core.Bool.{true, false}
 use mathlib.Core.List.{List}
 use Prim.Native.Nat.{ℕ, _+_, _-_, _^_, _≤_, _<_}
 use lib.ListN.{getD}
 use Rattle.calendar.specs.Add.{addWindow, addBlock}
 use native.Mathlib.Omega.{arith}
 use lib.IntN.{pos}
-use lib.Dec.{ltb, eqb}
+use lib.Dec.{eqb}
 use borrow.Author.Tests.{lt-ltb, le-ltb, le-leb, lt-leb, eq-eqb, ne-eqb}
 use Rattle.timeline.specs.declared.ResourceTimeline.{ResourceTimeline}
 use Rattle.timeline.specs.declared.Booked.{Booked}
@@ -17,7 +17,7 @@ use Rattle.records.specs.declared.Line.{Line}
 use Rattle.records.specs.declared.Stepped.{Stepped}
 use Rattle.records.specs.declared.Turn.{Turn}
 use Rattle.records.specs.declared.Line.the-variants.{Nothing, Refused}
-use Rattle.records.specs.Lines.{Printed, nothing, line, lineOf}
+use Rattle.records.specs.Lines.{nothing, line, lineOf}
 use Rattle.records.specs.Numbers.{little}
 use Rattle.records.specs.Records.{Done, Turned, bodyLen, steppedOf, turnOf, capacityReply, books, asks, recordDoes, ends, turnReply}
 

@@ -1,5 +1,5 @@
 -- What a record prints, and its bytes.
-use Prim.Native.Nat.{ℕ, zero, suc}
+use Prim.Native.Nat.{ℕ}
 use mathlib.Core.List.{List, [], _∷_, _++_}
 use Rattle.timeline.specs.Ask.{Reply, fit, none, refused}
 use Rattle.records.specs.declared.Line.{Line}

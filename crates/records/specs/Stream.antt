@@ -1,7 +1,7 @@
 -- A whole stream: what the program `slot` prints for the bytes of its input.
 use Prim.Native.Nat.{ℕ, zero, suc}
-use mathlib.Core.Bool.{Bool, true, false}
-use mathlib.Core.List.{List, [], _∷_, _++_}
+use mathlib.Core.Bool.{true, false}
+use mathlib.Core.List.{List, [], _++_}
 use lib.ListN.{length}
 use lib.IntN.{pos}
 use Rattle.timeline.specs.declared.ResourceTimeline.{ResourceTimeline}

@@ -2,10 +2,10 @@
 use mathlib.Core.Path.{_≡_, refl, sym, ap, _∙_}
 use mathlib.Core.Bool.{Bool, true, false, _&&_, cond}
 use mathlib.Core.List.{List, [], _∷_, _++_}
-use mathlib.Core.Logic.{_⊎_, inl, inr, ⊎-elim}
-use Prim.Native.Nat.{ℕ, zero, suc, _+_, _≤_, _<_, max}
+use mathlib.Core.Logic.{_⊎_, ⊎-elim}
+use Prim.Native.Nat.{ℕ, _+_, _≤_, _<_, max}
 use native.Mathlib.Omega.{arith}
-use lib.ListN.{length, length-append}
+use lib.ListN.{length}
 use lib.Dec.{leb}
 use borrow.Author.Tests.{leb-true, leb-false, le-leb, lt-leb}
 use Rattle.calendar.specs.Basics.{and-split, and-join, no-way, not-both, lt-or-ge}
@@ -19,7 +19,7 @@ use Rattle.board.specs.declared.Resource.{Resource}
 use Rattle.board.specs.declared.Board.{Board}
 use Rattle.board.specs.Resources.{onBoard}
 use Rattle.scheduler.specs.Alone.{allStart, earliestOf, companionsOf, withCompanions, durationAlone, spanAlone, arrival, startAlone}
-use Rattle.scheduler.specs.Choosing.{Candidate, answer, candidates}
+use Rattle.scheduler.specs.Choosing.{answer, candidates}
 use Rattle.scheduler.specs.Plain.{startsThere, candidateAt, startable}
 use Rattle.scheduler.specs.Lists.{Each, each-end, each-on}
 use Rattle.scheduler.specs.Together.{Sound, together-found, together-none}

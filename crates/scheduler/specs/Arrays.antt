@@ -7,7 +7,7 @@ use Prim.Native.Nat.{ℕ, zero, suc, _+_, _-_, _≤_, _<_}
 use native.Mathlib.Omega.{arith}
 use lib.ListN.{length, getD, set, take, drop}
 use lib.Seq.{take-suc, take-suc-set, take-add, getD-set-same, getD-set-other}
-use Rattle.calendar.specs.Basics.{and-true, and-false, and-assoc, same-or-not}
+use Rattle.calendar.specs.Basics.{and-false, and-assoc, same-or-not}
 use Rattle.activity.specs.Check.{every}
 use Rattle.scheduler.specs.Lists.{Each, each-end, each-on}
 

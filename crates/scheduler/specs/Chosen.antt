@@ -9,7 +9,7 @@ use native.Mathlib.Omega.{arith}
 use lib.ListN.{length}
 use lib.Dec.{leb, eqb}
 use borrow.Author.Tests.{eqb-true, eqb-false, leb-true, le-leb}
-use Rattle.calendar.specs.Basics.{and-split, and-join, no-way, not-both, lt-or-ge, same-or-not}
+use Rattle.calendar.specs.Basics.{and-split, and-join, no-way, lt-or-ge}
 use Rattle.calendar.specs.Search.{Found, nothing, at}
 use Rattle.timeline.proofs.Searching.{Sought, sought-start}
 use Rattle.timeline.proofs.Meaning.{Earliest}
@@ -21,9 +21,9 @@ use Rattle.board.specs.declared.Resource.{Resource}
 use Rattle.board.specs.declared.Board.{Board}
 use Rattle.board.specs.Resources.{resourcesOf, onBoard}
 use Rattle.scheduler.specs.Alone.{allStart, companionsOf, withCompanions, durationAlone, spanAlone, arrival, startAlone}
-use Rattle.scheduler.specs.Choosing.{Candidate, sortInto, answer, candidates, Held, holdFirst, Round, tooFew, holds, round, greatestStart, Choice, noChoice, chosen, settle, rounds}
+use Rattle.scheduler.specs.Choosing.{sortInto, answer, candidates, Held, holdFirst, Round, tooFew, holds, round, greatestStart, Choice, noChoice, chosen, settle, rounds}
 use Rattle.scheduler.specs.Fitting.{among}
-use Rattle.scheduler.specs.Plain.{startsThere, startable, enough, heldAt}
+use Rattle.scheduler.specs.Plain.{startsThere, enough, heldAt}
 use Rattle.scheduler.specs.Lists.{Each, each-end, each-on, each-append}
 use Rattle.scheduler.specs.Together.{all-back}
 use Rattle.scheduler.specs.Ranking.{each-sort}

@@ -1,8 +1,8 @@
 -- The closing fit finds the least start that suits all, without any bound.
-use mathlib.Core.Path.{_≡_, refl, sym, ap, _∙_}
-use mathlib.Core.Bool.{Bool, true, false, _&&_, cond}
+use mathlib.Core.Path.{_≡_, refl}
+use mathlib.Core.Bool.{Bool, true, false}
 use mathlib.Core.List.{List, [], _∷_, map}
-use Prim.Native.Nat.{ℕ, zero, suc, _+_, _-_, _≤_, _<_, max}
+use Prim.Native.Nat.{ℕ, suc, _+_, _-_, _≤_, max}
 use native.Mathlib.Omega.{arith}
 use Rattle.calendar.specs.declared.Calendar.{Calendar}
 use Rattle.calendar.specs.Basics.{and-split, and-join, not-both}
@@ -13,10 +13,10 @@ use Rattle.calendar.specs.Work.{working, joint, lastChange, jointEnd}
 use Rattle.calendar.specs.Meaning.{Quiet, fits-back, working-back, joint-changeless, joint-end-found, work-end-back, least-found}
 use Rattle.timeline.specs.Earliest.{freeOn}
 use Rattle.timeline.proofs.Searching.{none-ever}
-use Rattle.timeline.proofs.Stepping.{Still, free-on-back, quiet-past}
+use Rattle.timeline.proofs.Stepping.{free-on-back, quiet-past}
 use Rattle.scheduler.specs.Alone.{Share, allStart, lastOf}
 use Rattle.scheduler.specs.Fitting.{calendarOf, calendarsOf, fitsAll, allFree, freeToEnd, startsAll, suits, lastAll, fitting}
-use Rattle.scheduler.specs.Lists.{Each, each-end, each-on}
+use Rattle.scheduler.specs.Lists.{each-end, each-on}
 use Rattle.scheduler.specs.Together.{Sound, Calm, all-back, last-calm}
 use Rattle.scheduler.specs.Answering.{Answers}
 

@@ -2,32 +2,31 @@
 use mathlib.Core.Path.{_≡_, refl, sym, ap, _∙_, subst}
 use mathlib.Core.Bool.{Bool, true, false, not, _&&_, _||_, cond}
 use mathlib.Core.List.{List, [], _∷_}
-use mathlib.Core.Logic.{_⊎_, inl, inr, ⊎-elim}
+use mathlib.Core.Logic.{_⊎_, ⊎-elim}
 use Prim.Native.Nat.{ℕ, zero, suc, _+_, _^_, _≤_, _<_}
 use native.Mathlib.Omega.{arith}
-use lib.ListN.{getD, set, length, length-set}
+use lib.ListN.{length, length-set}
 use lib.Dec.{leb, ltb, eqb}
 use lib.Seq.{getD-set-same, getD-set-other}
 use borrow.Author.Tests.{leb-true, ltb-false, leb-false, le-leb, eqb-true, eqb-false, eq-eqb, not-false}
-use Rattle.calendar.specs.Basics.{and-split, and-join, not-both, lt-or-ge, same-or-not, unrefused}
+use Rattle.calendar.specs.Basics.{and-split, and-join, lt-or-ge, same-or-not, unrefused}
 use Rattle.calendar.specs.Search.{Found, nothing, at}
 use Rattle.timeline.specs.declared.ResourceTimeline.{ResourceTimeline}
 use Rattle.timeline.specs.Bookings.{bookings}
 use Rattle.timeline.specs.Valid as timeline
-use Rattle.timeline.specs.Book.{insertBooking, diary}
+use Rattle.timeline.specs.Book.{diary}
 use Rattle.timeline.proofs.Rules as timeline-rules
 use Rattle.timeline.proofs.Rows.{count}
 use Rattle.timeline.proofs.Keeping.{booked-keeps, length-inserted}
 use Rattle.activity.specs.Check.{every}
-use Rattle.board.specs.declared.LastCategory.{LastCategory}
-use Rattle.board.specs.declared.LastCategory.the-variants.{Nothing, Category}
+use Rattle.board.specs.declared.LastCategory.the-variants.{Category}
 use Rattle.board.specs.declared.Resource.{Resource}
 use Rattle.board.specs.declared.Board.{Board}
 use Rattle.board.specs.Resources.{noResource, resourceAt, numberAt, lookupTo, lookup, isAt, onBoard}
 use Rattle.board.specs.Valid as board
-use Rattle.board.specs.Enter.{entered, withResource, changed}
+use Rattle.board.specs.Enter.{entered, changed}
 use Rattle.board.proofs.Facts.{rules}
-use Rattle.board.proofs.Meaning.{lookup-means, resource-rules, resource-of}
+use Rattle.board.proofs.Meaning.{lookup-means, resource-rules}
 use Rattle.board.proofs.Keeping.{valid-with}
 use Rattle.scheduler.specs.Alone.{resourceIn, diaryOf}
 use Rattle.scheduler.specs.Committing.{Line, entriesOn, linesOf, linesRefusal, commitRefusal, withBooking, lastAfter, booked, bookAll, commitReply}

@@ -1,16 +1,15 @@
 -- The reply of committing, and the board afterwards.
 use Prim.Native.Nat.{ℕ, _+_, _^_}
-use mathlib.Core.Bool.{Bool, true, false, not, _&&_, _||_, cond}
+use mathlib.Core.Bool.{Bool, not, _&&_, _||_, cond}
 use mathlib.Core.List.{List, [], _∷_, map}
 use lib.ListN.{length, getD, take}
 use lib.Dec.{leb, ltb, eqb}
-use Rattle.calendar.specs.Search.{Found, nothing, at}
 use Rattle.timeline.specs.declared.ResourceTimeline.{ResourceTimeline}
-use Rattle.timeline.specs.Bookings.{Booking, bookings}
+use Rattle.timeline.specs.Bookings.{bookings}
 use Rattle.timeline.specs.Book.{insertBooking, diary}
 use Rattle.activity.specs.Check.{every}
 use Rattle.board.specs.declared.LastCategory.{LastCategory}
-use Rattle.board.specs.declared.LastCategory.the-variants.{Nothing, Category}
+use Rattle.board.specs.declared.LastCategory.the-variants.{Category}
 use Rattle.board.specs.declared.Resource.{Resource}
 use Rattle.board.specs.declared.Board.{Board}
 use Rattle.board.specs.declared.Entered.{Entered}

@@ -1,26 +1,24 @@
 -- The rounds of choosing, of companions and of the closing fit end within 2,129 instants, as 01 counts them: ready, 16 arrivals, 128
 -- events on each of 16 diaries, and 64 on the order's own calendar. So the Rust's 10,000 rounds are never met.
-use mathlib.Core.Path.{_≡_, refl, sym, ap, _∙_, subst}
-use mathlib.Core.Bool.{Bool, true, false, _||_, cond}
-use mathlib.Core.List.{List, [], _∷_, _++_, map}
+use mathlib.Core.Path.{_≡_, refl, sym, _∙_}
+use mathlib.Core.Bool.{Bool, true, false, cond}
+use mathlib.Core.List.{List, [], _∷_, _++_}
 use mathlib.Core.Logic.{_⊎_, inl, inr, ⊎-elim}
-use Prim.Native.Nat.{ℕ, zero, suc, _+_, _*_, _≤_, _<_, max}
+use Prim.Native.Nat.{ℕ, zero, suc, _+_, _≤_, _<_}
 use native.Mathlib.Omega.{arith}
 use lib.ListN.{length, take, length-append, length-take}
 use lib.Dec.{eqb}
 use borrow.Author.Tests.{eqb-true, eqb-false}
 use Rattle.calendar.specs.declared.Calendar.{Calendar}
-use Rattle.calendar.specs.Basics.{not-both, no-way, lt-or-ge}
+use Rattle.calendar.specs.Basics.{not-both, lt-or-ge}
 use Rattle.calendar.specs.Search.{Found, nothing, at}
 use Rattle.calendar.specs.Valid as calendar
 use Rattle.calendar.proofs.Rules as calendar-rules
-use Rattle.timeline.specs.declared.ResourceTimeline.{ResourceTimeline}
 use Rattle.timeline.specs.Book.{diary}
 use Rattle.timeline.proofs.Searching.{Sought, sought-start}
 use Rattle.activity.specs.declared.ResourceRequirement.{ResourceRequirement}
 use Rattle.activity.specs.declared.Activity.{Activity}
-use Rattle.activity.specs.Check.{every, requirementsOf}
-use Rattle.board.specs.declared.Resource.{Resource}
+use Rattle.activity.specs.Check.{requirementsOf}
 use Rattle.board.specs.declared.Board.{Board}
 use Rattle.board.specs.Resources.{resourcesOf, onBoard}
 use Rattle.board.specs.Valid as board
@@ -35,7 +33,7 @@ use Rattle.scheduler.specs.Together.{Sound}
 use Rattle.scheduler.specs.Answering.{Answers, answers-same}
 use Rattle.scheduler.specs.Events.{events, eventsOf, among-append, above, above-falls, above-length}
 use Rattle.scheduler.specs.Chosen.{Chooses, rounds-mean}
-use Rattle.scheduler.specs.Ruled.{eventsOn, events-length, on-event, on-valid, all-kept, all-listed, points, points-length, events-board}
+use Rattle.scheduler.specs.Ruled.{eventsOn, on-event, on-valid, all-kept, all-listed, points, points-length, events-board}
 use Rattle.scheduler.specs.Closing.{fitting-answers}
 use Rattle.scheduler.specs.Latest.{latestOf, Step, Latest, latest-says, sought-past, sought-never, together-answers, events-count}
 use Rattle.scheduler.specs.Owning.{ownShare, own-valid, suitsOn, suits-on}

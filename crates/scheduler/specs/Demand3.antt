@@ -1,36 +1,34 @@
 -- Demand 3: two boards alike but for extra bookings, one order and one ready time.
 use mathlib.Core.Path.{_≡_, refl, sym, ap, _∙_, subst}
-use mathlib.Core.Bool.{Bool, true, false, not, _&&_, _||_, cond}
+use mathlib.Core.Bool.{Bool, true, false, not, _||_, cond}
 use mathlib.Core.List.{List, [], _∷_, _++_, map}
-use mathlib.Core.Logic.{_⊎_, inl, inr, ⊎-elim}
+use mathlib.Core.Logic.{_⊎_, ⊎-elim}
 use Prim.Native.Nat.{ℕ, zero, suc, _+_, _≤_, _<_}
 use native.Mathlib.Omega.{arith}
 use lib.ListN.{length, take, drop}
-use lib.Dec.{leb, ltb}
-use borrow.Author.Tests.{leb-true, not-false}
-use Rattle.calendar.specs.Basics.{and-split, not-both, lt-or-ge, unrefused}
+use lib.Dec.{ltb}
+use Rattle.calendar.specs.Basics.{not-both, lt-or-ge, unrefused}
 use Rattle.calendar.specs.Search.{Found, nothing, at}
 use Rattle.calendar.specs.Valid as calendar
 use Rattle.timeline.proofs.Meaning.{Earliest}
 use Rattle.activity.specs.declared.ResourceRequirement.{ResourceRequirement}
 use Rattle.activity.specs.declared.Activity.{Activity}
 use Rattle.activity.specs.Ready.{readyOf}
-use Rattle.activity.specs.Check.{every, requirementsOf, quantity, quantitiesRight, usageRight, timingSpeed, timesRight, activityRefusal}
+use Rattle.activity.specs.Check.{requirementsOf, quantity, activityRefusal}
 use Rattle.board.specs.declared.Board.{Board}
 use Rattle.board.specs.Valid as board
 use Rattle.scheduler.specs.Alone.{spanOf}
-use Rattle.scheduler.specs.Choosing.{Held, Choice, noChoice, chosen, rounds, choosing}
+use Rattle.scheduler.specs.Choosing.{Held, Choice, noChoice, chosen, choosing}
 use Rattle.scheduler.specs.declared.Entry.{Entry}
 use Rattle.scheduler.specs.Fitting.{entriesOf, spanTogether, sharesOf, fitting, endOf}
 use Rattle.scheduler.specs.Placing.{Reply, placed, chosenNone, none, refused, ended, started, fitted, fitChosen, timeOnly, byRequirements, placing, refusedOr, placeRefusal, placeReply, rowOf, slateAfter, choosingInstant, refusalOf}
 use Rattle.scheduler.specs.Plain.{enough, heldAt}
-use Rattle.scheduler.specs.Lists.{Each, each-end, each-on, Pairs}
+use Rattle.scheduler.specs.Lists.{Each, each-end, Pairs}
 use Rattle.scheduler.specs.Chosen.{Chooses}
 use Rattle.scheduler.specs.Meaning.{choosing-means, some-of-each}
 use Rattle.scheduler.specs.Alike.{Alike, NoExtra}
 use Rattle.scheduler.specs.Twins.{Clean}
 use Rattle.scheduler.specs.Holding.{TwinHeld, enough-less, held-same, entries-same, clean-held-all, fitted-same}
-use Rattle.scheduler.specs.Tests.{or-right}
 
 fitted-instant : (b : Board) (a : Activity) (span t : ℕ) (es : List Entry) → choosingInstant (fitted b a span t es) ≡ at t
 unfolding fitted started ended choosingInstant

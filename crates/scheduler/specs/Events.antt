@@ -1,21 +1,21 @@
 -- The instants at which something can first start: a window start, a block end, a booking end of some diary, or an arrival.
-use mathlib.Core.Path.{_≡_, refl, sym, ap, _∙_}
-use mathlib.Core.Bool.{Bool, true, false, _&&_, _||_, cond}
+use mathlib.Core.Path.{_≡_, refl, sym, _∙_}
+use mathlib.Core.Bool.{Bool, true, false, _||_, cond}
 use mathlib.Core.List.{List, [], _∷_, _++_}
 use mathlib.Core.Logic.{_⊎_, inl, inr, ⊎-elim}
 use Prim.Native.Nat.{ℕ, zero, suc, _+_, _≤_, _<_}
 use native.Mathlib.Omega.{arith}
 use lib.ListN.{getD, length, take}
-use lib.Dec.{leb, ltb, eqb}
-use borrow.Author.Tests.{eqb-true, eqb-false, eq-eqb, leb-true, le-leb, ltb-true, ltb-false, lt-ltb, le-ltb}
-use Rattle.calendar.specs.Basics.{and-split, and-join, no-way, not-both, lt-or-ge, same-or-not}
+use lib.Dec.{ltb, eqb}
+use borrow.Author.Tests.{eqb-true, eqb-false, ltb-true, ltb-false}
+use Rattle.calendar.specs.Basics.{not-both, lt-or-ge}
 use Rattle.timeline.specs.declared.ResourceTimeline.{ResourceTimeline}
 use Rattle.timeline.proofs.Stepping.{Still}
 use Rattle.timeline.proofs.Meaning.{Earliest}
-use Rattle.scheduler.specs.Alone.{Share, allStart}
+use Rattle.scheduler.specs.Alone.{Share}
 use Rattle.scheduler.specs.Fitting.{among}
-use Rattle.scheduler.specs.Lists.{Each, each-end, each-on}
-use Rattle.scheduler.specs.Together.{Calm, all-back}
+use Rattle.scheduler.specs.Lists.{each-end, each-on}
+use Rattle.scheduler.specs.Together.{Calm}
 use Rattle.scheduler.specs.Tests.{or-left, or-right}
 
 unfoldable pub events : ResourceTimeline → List ℕ

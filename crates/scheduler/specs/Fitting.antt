@@ -11,7 +11,6 @@ use Rattle.timeline.specs.Earliest.{freeOn}
 use Rattle.activity.specs.declared.ActivityDuration.{ActivityDuration}
 use Rattle.activity.specs.declared.Activity.{Activity}
 use Rattle.activity.specs.Durations.{durationOn}
-use Rattle.board.specs.declared.Resource.{Resource}
 use Rattle.board.specs.declared.Board.{Board}
 use Rattle.board.specs.Setups.{setupOn}
 use Rattle.scheduler.specs.declared.Entry.{Entry}

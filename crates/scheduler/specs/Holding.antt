@@ -2,14 +2,14 @@
 use mathlib.Core.Path.{_≡_, refl, sym, ap, _∙_, subst, fun-ext}
 use mathlib.Core.Bool.{Bool, true, false, _&&_, _||_, cond}
 use mathlib.Core.List.{List, [], _∷_, _++_, map}
-use mathlib.Core.Logic.{_⊎_, inl, inr, ⊎-elim}
-use Prim.Native.Nat.{ℕ, zero, suc, _+_, _-_, _≤_, _<_, max}
+use mathlib.Core.Logic.{_⊎_, ⊎-elim}
+use Prim.Native.Nat.{ℕ, suc, _+_, _-_, _≤_, max}
 use native.Mathlib.Omega.{arith}
 use lib.ListN.{length, take}
 use lib.Dec.{leb, eqb}
 use borrow.Author.Tests.{leb-true, le-leb, eqb-true, eq-eqb}
 use Rattle.calendar.specs.declared.Calendar.{Calendar}
-use Rattle.calendar.specs.Basics.{and-split, and-join, no-way, not-both}
+use Rattle.calendar.specs.Basics.{and-split, and-join, not-both}
 use Rattle.calendar.specs.Search.{Found, nothing, at, leastFrom}
 use Rattle.calendar.specs.Fits.{fits}
 use Rattle.calendar.specs.Work.{lastChange, jointEnd}
@@ -24,16 +24,16 @@ use Rattle.board.specs.declared.Resource.{Resource}
 use Rattle.board.specs.declared.Board.{Board}
 use Rattle.board.specs.Resources.{resourcesOf}
 use Rattle.board.specs.Setups.{setupOn}
-use Rattle.scheduler.specs.Alone.{Share, allStart, lastOf, diaryOf, companionsOf, durationAlone, spanOf}
+use Rattle.scheduler.specs.Alone.{Share, allStart, lastOf, diaryOf, companionsOf}
 use Rattle.scheduler.specs.Choosing.{Candidate, sort, Held, heldFor, holdFirst}
 use Rattle.scheduler.specs.declared.Entry.{Entry}
-use Rattle.scheduler.specs.Fitting.{numberOf, numbersOf, durationTogether, heldEntry, heldEntries, greatestSetup, among, joinEach, allCompanions, companionEntry, companionEntries, entriesOf, spanTogether, shareOf, sharesOf, fitsAll, allFree, freeToEnd, calendarOf, calendarsOf, startsAll, suits, lastAll, fitting, endOf}
-use Rattle.scheduler.specs.Placing.{Reply, ended, started, fitted}
+use Rattle.scheduler.specs.Fitting.{numbersOf, durationTogether, heldEntry, heldEntries, among, joinEach, allCompanions, companionEntry, companionEntries, entriesOf, spanTogether, sharesOf, fitsAll, allFree, freeToEnd, calendarOf, calendarsOf, startsAll, suits, lastAll, fitting, endOf}
+use Rattle.scheduler.specs.Placing.{ended, started, fitted}
 use Rattle.scheduler.specs.Plain.{startsThere, candidateAt, startable, enough, heldAt}
-use Rattle.scheduler.specs.Lists.{Each, each-end, each-on, each-append, each-left, each-right, Pairs, pairs-end, pairs-on, pairs-append}
+use Rattle.scheduler.specs.Lists.{Each, each-end, each-on, each-left, each-right, Pairs, pairs-end, pairs-on, pairs-append}
 use Rattle.scheduler.specs.Ranking.{length-sort}
 use Rattle.scheduler.specs.Events.{among-append}
-use Rattle.scheduler.specs.Alike.{AlikeDiary, AlikeResource, Alike, NoExtra}
+use Rattle.scheduler.specs.Alike.{Alike, NoExtra}
 use Rattle.scheduler.specs.Lending.{AlikeShare, all-less, all-free-less, diaries-alike, diaries-same}
 use Rattle.scheduler.specs.Twins.{Twin, twins, Clean, companions-twin, duration-twin, setup-twin, starts-less, starts-same}
 use Rattle.scheduler.specs.Dropping.{Sub, sub-end, sub-keep, sub-drop, sub-sort, sub-take}

@@ -1,34 +1,25 @@
 -- Alike boards: what holds on the second of a diary holds on the first, and of one without extras on both alike.
-use mathlib.Core.Path.{_≡_, refl, sym, ap, _∙_, subst, fun-ext}
-use mathlib.Core.Bool.{Bool, true, false, not, _&&_, cond}
-use mathlib.Core.List.{List, [], _∷_, _++_, map}
-use mathlib.Core.Logic.{_⊎_, inl, inr, ⊎-elim}
-use Prim.Native.Nat.{ℕ, zero, suc, _+_, _≤_, _<_}
+use mathlib.Core.Path.{_≡_, refl, sym, ap, _∙_, subst}
+use mathlib.Core.Bool.{Bool, true, false}
+use mathlib.Core.List.{List, [], _∷_}
+use Prim.Native.Nat.{ℕ, _+_}
 use native.Mathlib.Omega.{arith}
-use lib.ListN.{getD, length, take}
-use lib.Dec.{leb, eqb}
-use borrow.Author.Tests.{eq-eqb, eqb-true, not-true}
+use lib.Dec.{eqb}
 use Rattle.calendar.specs.declared.Calendar.{Calendar}
-use Rattle.calendar.specs.Basics.{and-split, and-join, no-way, not-both}
+use Rattle.calendar.specs.Basics.{and-split, and-join, not-both}
 use Rattle.calendar.specs.Search.{Found, nothing, at, leastFrom}
 use Rattle.calendar.specs.Fits.{fits}
 use Rattle.calendar.specs.Work.{jointEnd}
-use Rattle.calendar.specs.Meaning.{least-none, least-is, least-same}
+use Rattle.calendar.specs.Meaning.{least-same}
 use Rattle.timeline.specs.declared.ResourceTimeline.{ResourceTimeline}
 use Rattle.timeline.specs.Bookings.{bookings}
 use Rattle.timeline.specs.Earliest.{freeOn, fitsAt, freeTo, startsAt}
-use Rattle.timeline.proofs.Meaning.{Holds, free-more}
-use Rattle.activity.specs.declared.ResourceRequirement.{ResourceRequirement}
-use Rattle.activity.specs.declared.Activity.{Activity}
-use Rattle.activity.specs.Serving.{serves}
-use Rattle.activity.specs.Check.{every}
-use Rattle.board.specs.declared.Resource.{Resource}
+use Rattle.timeline.proofs.Meaning.{free-more}
 use Rattle.board.specs.declared.Board.{Board}
-use Rattle.board.specs.Resources.{noResource, resourcesOf, resourceAt, numberAt, lookupTo, lookup, isAt, onBoard}
-use Rattle.board.specs.Transport.{greatest}
-use Rattle.scheduler.specs.Alone.{Share, canStart, allStart, resourceIn, diaryOf, companionsOf, oneUnit, withCompanions, durationAlone, spanAlone, arrival}
+use Rattle.board.specs.Resources.{noResource, numberAt, lookupTo, lookup, isAt, onBoard}
+use Rattle.scheduler.specs.Alone.{Share, canStart, allStart, resourceIn, diaryOf}
 use Rattle.scheduler.specs.Fitting.{allFree}
-use Rattle.scheduler.specs.Alike.{AlikeDiary, AlikeResource, Alike, NoExtra}
+use Rattle.scheduler.specs.Alike.{AlikeDiary, Alike, NoExtra}
 use Rattle.board.proofs.Meaning.{lookup-means}
 use Rattle.scheduler.specs.Lists.{Pairs, pairs-end, pairs-on}
 

@@ -1,9 +1,9 @@
 -- What choosing and placing amount to, in the plainest terms.
 use mathlib.Core.Path.{_≡_, refl, sym, ap, _∙_, subst}
-use mathlib.Core.Bool.{Bool, true, false, not, _&&_, _||_, cond}
+use mathlib.Core.Bool.{Bool, true, false, not, _||_, cond}
 use mathlib.Core.List.{List, [], _∷_, _++_, map}
 use mathlib.Core.Logic.{_⊎_, inl, inr, ⊎-elim}
-use Prim.Native.Nat.{ℕ, zero, suc, _+_, _≤_, _<_}
+use Prim.Native.Nat.{ℕ, _+_, _≤_}
 use native.Mathlib.Omega.{arith}
 use lib.ListN.{length, drop}
 use lib.Dec.{leb, ltb}
@@ -19,7 +19,7 @@ use Rattle.activity.specs.Check.{every, requirementsOf, quantity, quantitiesRig
 use Rattle.board.specs.declared.Board.{Board}
 use Rattle.board.specs.Valid as board
 use Rattle.scheduler.specs.Alone.{Share}
-use Rattle.scheduler.specs.Choosing.{Held, Choice, noChoice, chosen, rounds, choosing}
+use Rattle.scheduler.specs.Choosing.{Held, Choice, noChoice, chosen, choosing}
 use Rattle.scheduler.specs.declared.Entry.{Entry}
 use Rattle.scheduler.specs.Fitting.{entriesOf, spanTogether, sharesOf, calendarsOf, freeToEnd, startsAll, suits, fitting, endOf}
 use Rattle.scheduler.specs.Placing.{Reply, placed, chosenNone, none, refused, ended, started, fitted, fitChosen, byRequirements, placing, rowOf, slateAfter}

@@ -1,8 +1,8 @@
 -- The order's own calendar as a diary that nothing books, in front of the entries' diaries (the Rust's `own_timeline`).
 use mathlib.Core.Path.{_≡_, refl, sym, ap, _∙_}
-use mathlib.Core.Bool.{Bool, true, false, _&&_, cond}
+use mathlib.Core.Bool.{Bool, true, false, _&&_}
 use mathlib.Core.List.{List, [], _∷_, map}
-use Prim.Native.Nat.{ℕ, zero, suc, _+_, _-_, _≤_, _<_}
+use Prim.Native.Nat.{ℕ, _+_, _-_}
 use native.Mathlib.Omega.{arith}
 use Rattle.calendar.specs.declared.Calendar.{Calendar}
 use Rattle.calendar.specs.Basics.{and-true}
@@ -10,17 +10,15 @@ use Rattle.calendar.specs.Search.{Found, nothing, at}
 use Rattle.calendar.specs.Valid as calendar
 use Rattle.calendar.specs.Fits.{fits}
 use Rattle.calendar.specs.Work.{jointEnd}
-use Rattle.timeline.specs.Bookings.{bookings, bookingsTo}
+use Rattle.timeline.specs.Bookings.{bookingsTo}
 use Rattle.timeline.specs.Valid.{valid}
 use Rattle.timeline.specs.Book.{diary}
-use Rattle.timeline.specs.Free.{load, roomFrom, free}
+use Rattle.timeline.specs.Free.{load}
 use Rattle.timeline.specs.Earliest.{freeOn, fitsAt}
 use Rattle.timeline.proofs.Loading.{free-yes}
 use Rattle.timeline.proofs.Keeping.{diary-keeps, order-end}
 use Rattle.scheduler.specs.Alone.{Share, canStart, allStart}
-use Rattle.scheduler.specs.Fitting.{calendarOf, calendarsOf, fitsAll, allFree, freeToEnd, startsAll, suits}
-use Rattle.scheduler.specs.Lists.{Each, each-end, each-on}
-use Rattle.scheduler.specs.Together.{Sound}
+use Rattle.scheduler.specs.Fitting.{calendarOf, fitsAll, allFree, freeToEnd, startsAll, suits}
 
 abbrev pub ownShare : Calendar → Share
 ownShare own = record { timeline = diary 1 own []; units = 1 }

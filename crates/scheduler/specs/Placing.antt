@@ -1,6 +1,6 @@
 -- The reply of placing, and the slate afterwards.
 use Prim.Native.Nat.{ℕ, zero, suc}
-use mathlib.Core.Bool.{Bool, true, false, not, _||_, cond}
+use mathlib.Core.Bool.{Bool, not, _||_, cond}
 use mathlib.Core.List.{List, [], _∷_, _++_, map}
 use lib.ListN.{length, drop}
 use lib.Dec.{ltb}
@@ -13,7 +13,7 @@ use Rattle.activity.specs.Check.{requirementsOf, activityRefusal}
 use Rattle.board.specs.declared.Board.{Board}
 use Rattle.board.specs.Valid as board
 use Rattle.scheduler.specs.Alone.{Share, spanOf}
-use Rattle.scheduler.specs.Choosing.{Held, Choice, noChoice, chosen, choosing}
+use Rattle.scheduler.specs.Choosing.{Choice, noChoice, chosen, choosing}
 use Rattle.scheduler.specs.declared.Entry.{Entry}
 use Rattle.scheduler.specs.Fitting.{entriesOf, spanTogether, sharesOf, fitting, endOf}
 

@@ -1,6 +1,6 @@
 -- The choice without rounds, as the rule under the price list has it: the first instant when every line of the order has enough
 -- resources that can start at that instant itself, shorter processing first, then board order.
-use Prim.Native.Nat.{ℕ, zero, suc}
+use Prim.Native.Nat.{ℕ}
 use mathlib.Core.Bool.{Bool, true, _&&_, cond}
 use mathlib.Core.List.{List, [], _∷_, _++_}
 use lib.ListN.{length}

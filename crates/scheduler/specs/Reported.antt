@@ -1,9 +1,9 @@
 -- The resources of a placement are on the board, so that their diaries keep the rules.
-use mathlib.Core.Path.{_≡_, refl, sym, ap, _∙_, subst}
-use mathlib.Core.Bool.{Bool, true, false, _&&_, _||_, cond}
+use mathlib.Core.Path.{_≡_, refl, sym, ap, subst}
+use mathlib.Core.Bool.{Bool, true, false, _||_, cond}
 use mathlib.Core.List.{List, [], _∷_, _++_, map}
-use Prim.Native.Nat.{ℕ, zero, suc, _<_}
-use lib.ListN.{length, take}
+use Prim.Native.Nat.{ℕ}
+use lib.ListN.{take}
 use Rattle.calendar.specs.Basics.{and-split}
 use Rattle.activity.specs.declared.ResourceRequirement.{ResourceRequirement}
 use Rattle.activity.specs.declared.Activity.{Activity}
@@ -11,14 +11,14 @@ use Rattle.activity.specs.Serving.{serves}
 use Rattle.activity.specs.Check.{every}
 use Rattle.board.specs.declared.Resource.{Resource}
 use Rattle.board.specs.declared.Board.{Board}
-use Rattle.board.specs.Resources.{resourcesOf, resourceAt, isAt, onBoard}
+use Rattle.board.specs.Resources.{resourcesOf, isAt, onBoard}
 use Rattle.board.specs.Valid as board
 use Rattle.board.proofs.Meaning.{lookup-is}
 use Rattle.timeline.specs.Valid as timeline
 use Rattle.scheduler.specs.Alone.{companionsOf}
 use Rattle.scheduler.specs.Choosing.{Candidate, sort, Held, heldFor, holdFirst}
 use Rattle.scheduler.specs.declared.Entry.{Entry}
-use Rattle.scheduler.specs.Fitting.{numbersOf, durationTogether, heldEntry, heldEntries, among, joinEach, allCompanions, companionEntry, companionEntries, entriesOf, shareOf, sharesOf}
+use Rattle.scheduler.specs.Fitting.{numbersOf, durationTogether, heldEntries, among, joinEach, allCompanions, companionEntry, companionEntries, entriesOf, shareOf, sharesOf}
 use Rattle.scheduler.specs.Plain.{startsThere, candidateAt, startable, heldAt}
 use Rattle.scheduler.specs.Lists.{Each, each-end, each-on, each-append, each-take}
 use Rattle.scheduler.specs.Together.{Sound}

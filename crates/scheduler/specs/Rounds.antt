@@ -1,21 +1,20 @@
 -- A round: it stays at an instant exactly when there are enough at that instant, and it never passes such an instant.
 use mathlib.Core.Path.{_≡_, refl, sym, ap, _∙_}
-use mathlib.Core.Bool.{Bool, true, false, _&&_, cond}
+use mathlib.Core.Bool.{Bool, true, false, cond}
 use mathlib.Core.List.{List, [], _∷_, _++_, map}
-use Prim.Native.Nat.{ℕ, zero, suc, _+_, _≤_, _<_, max, min}
+use Prim.Native.Nat.{ℕ, zero, suc, _+_, _≤_}
 use native.Mathlib.Omega.{arith}
 use lib.ListN.{length, length-append, length-map, length-take, take}
 use lib.Dec.{leb, ltb}
 use borrow.Author.Tests.{leb-true, le-leb, ltb-false, le-ltb}
-use Rattle.calendar.specs.Basics.{and-split, and-join, no-way, not-both, lt-or-ge}
-use mathlib.Core.Logic.{_⊎_, inl, inr, ⊎-elim}
+use Rattle.calendar.specs.Basics.{and-split, and-join, not-both}
 use Rattle.activity.specs.declared.ResourceRequirement.{ResourceRequirement}
 use Rattle.activity.specs.declared.Activity.{Activity}
 use Rattle.board.specs.declared.Board.{Board}
 use Rattle.board.specs.Resources.{resourcesOf}
-use Rattle.scheduler.specs.Choosing.{Candidate, sortInto, sort, candidates, Held, heldFor, holdFirst, Round, tooFew, holds, behind, hold, round, greatestStart}
+use Rattle.scheduler.specs.Choosing.{Candidate, sort, candidates, Held, heldFor, holdFirst, Round, tooFew, holds, behind, hold, round, greatestStart}
 use Rattle.scheduler.specs.Plain.{startable, enough, heldAt}
-use Rattle.scheduler.specs.Lists.{Each, each-end, each-on, each-append, each-take, each-map, take-front, each-left, each-right}
+use Rattle.scheduler.specs.Lists.{Each, each-end, each-on, each-append, each-take, take-front, each-left, each-right}
 use Rattle.scheduler.specs.Ranking.{Low, High, low, high, low-each, high-each, low-high, sort-split, each-sort, length-sort}
 use Rattle.scheduler.specs.Answering.{Kept, low-startable, low-more, candidates-from}
 

@@ -1,16 +1,15 @@
 -- What a board that keeps the rules gives: sound diaries, and at most 2,064 instants at which a resource can first start.
 use mathlib.Core.Path.{_≡_, refl, sym, ap, _∙_}
-use mathlib.Core.Bool.{Bool, true, false, not, _&&_, _||_, cond}
+use mathlib.Core.Bool.{true, _||_}
 use mathlib.Core.List.{List, [], _∷_, _++_, map}
-use mathlib.Core.Logic.{_⊎_, inl, inr, ⊎-elim}
-use Prim.Native.Nat.{ℕ, zero, suc, _+_, _*_, _≤_, _<_, min}
+use mathlib.Core.Logic.{_⊎_, ⊎-elim}
+use Prim.Native.Nat.{ℕ, zero, suc, _+_, _*_, _≤_, _<_}
 use native.Mathlib.Omega.{arith}
 use lib.ListN.{getD, length, take, length-append, length-map, length-take, List·getD-eq-default}
-use lib.Dec.{leb, ltb, eqb}
-use borrow.Author.Tests.{leb-true, lt-ltb, eq-eqb, eqb-true}
+use lib.Dec.{eqb}
+use borrow.Author.Tests.{eq-eqb, eqb-true}
 use Rattle.calendar.specs.Basics.{and-split, not-both, lt-or-ge}
 use Rattle.calendar.specs.Search.{Found, nothing, at}
-use Rattle.calendar.specs.Meaning.{least-found, least-none, least-is}
 use Rattle.calendar.proofs.Rules as calendar
 use Rattle.timeline.specs.declared.ResourceTimeline.{ResourceTimeline}
 use Rattle.timeline.specs.Valid as timeline
@@ -20,16 +19,16 @@ use Rattle.activity.specs.declared.Activity.{Activity}
 use Rattle.activity.specs.Check.{every}
 use Rattle.board.specs.declared.Resource.{Resource}
 use Rattle.board.specs.declared.Board.{Board}
-use Rattle.board.specs.Resources.{noResource, resourcesOf, resourceAt, numberAt, lookupTo, lookup, isAt, onBoard}
+use Rattle.board.specs.Resources.{noResource, resourcesOf, resourceAt, lookup, isAt, onBoard}
 use Rattle.board.specs.Valid as board
 use Rattle.board.proofs.Facts.{rules}
 use Rattle.board.proofs.Meaning.{lookup-means, resource-of}
-use Rattle.scheduler.specs.Alone.{Share, resourceIn, diaryOf, oneUnit, companionsOf, withCompanions, arrival}
+use Rattle.scheduler.specs.Alone.{resourceIn, diaryOf, oneUnit, companionsOf, withCompanions, arrival}
 use Rattle.scheduler.specs.Fitting.{among}
 use Rattle.scheduler.specs.Lists.{Each, each-end, each-on}
 use Rattle.scheduler.specs.Together.{Sound}
 use Rattle.scheduler.specs.Answering.{Kept}
-use Rattle.scheduler.specs.Events.{events, eventsOf, among-append, above, above-length}
+use Rattle.scheduler.specs.Events.{events, eventsOf, among-append}
 use Rattle.scheduler.specs.Chosen.{Listed}
 use Rattle.scheduler.specs.Tests.{or-in-left, or-in-right, or-cases}
 

@@ -1,9 +1,7 @@
 -- Small facts on tests.
 use mathlib.Core.Path.{_≡_, refl, sym}
-use mathlib.Core.Bool.{Bool, true, false, _||_, cond}
+use mathlib.Core.Bool.{Bool, true, false, _||_}
 use mathlib.Core.Logic.{_⊎_, inl, inr}
-use Prim.Native.Nat.{ℕ, suc}
-use native.Mathlib.Omega.{arith}
 use Rattle.calendar.specs.Basics.{not-both}
 
 pub or-left : (p q : Bool) → p || q ≡ false → p ≡ false

@@ -1,14 +1,12 @@
 -- Several diaries together: past the last event nothing changes, and the least start on all of them without any bound.
-use mathlib.Core.Path.{_≡_, refl, sym, ap, _∙_}
-use mathlib.Core.Bool.{Bool, true, false, _&&_, cond}
+use mathlib.Core.Path.{_≡_, refl}
+use mathlib.Core.Bool.{Bool, true, false}
 use mathlib.Core.List.{List, [], _∷_}
-use mathlib.Core.Logic.{_⊎_, inl, inr, ⊎-elim}
-use Prim.Native.Nat.{ℕ, zero, suc, _+_, _-_, _≤_, _<_, max}
+use Prim.Native.Nat.{ℕ, suc, _-_, _≤_}
 use native.Mathlib.Omega.{arith}
 use Rattle.calendar.specs.Basics.{and-split, and-join}
-use Rattle.calendar.specs.Search.{Found, nothing, at, leastFrom}
+use Rattle.calendar.specs.Search.{nothing, at}
 use Rattle.calendar.specs.Meaning.{least-found}
-use Rattle.timeline.specs.Earliest.{fitsAt, startsAt, lastEvent}
 use Rattle.timeline.specs.Valid.{valid}
 use Rattle.timeline.proofs.Rules.{rules}
 use Rattle.timeline.proofs.Searching.{none-ever}

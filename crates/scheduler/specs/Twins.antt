@@ -1,24 +1,22 @@
 -- Alike boards, resource by resource: what can start at an instant on the second can on the first, and one without extras on both.
 use mathlib.Core.Path.{_≡_, refl, sym, ap, _∙_, subst, fun-ext}
-use mathlib.Core.Bool.{Bool, true, false, _&&_, cond}
+use mathlib.Core.Bool.{Bool, true, false, _&&_}
 use mathlib.Core.List.{List, [], _∷_, map}
 use Prim.Native.Nat.{ℕ, zero, suc, _+_, _≤_, _<_}
 use native.Mathlib.Omega.{arith}
 use lib.ListN.{getD, length, take}
 use lib.Dec.{leb}
-use Rattle.calendar.specs.Basics.{and-split, and-join}
 use Rattle.timeline.specs.declared.ResourceTimeline.{ResourceTimeline}
-use Rattle.activity.specs.declared.ActivityDuration.{ActivityDuration}
 use Rattle.activity.specs.declared.ResourceRequirement.{ResourceRequirement}
 use Rattle.activity.specs.declared.Activity.{Activity}
 use Rattle.activity.specs.Serving.{serves}
 use Rattle.activity.specs.Check.{every}
 use Rattle.board.specs.declared.Resource.{Resource}
 use Rattle.board.specs.declared.Board.{Board}
-use Rattle.board.specs.Resources.{noResource, resourcesOf, resourceAt, numberAt, onBoard}
-use Rattle.board.specs.Setups.{setupMs, setupOn}
+use Rattle.board.specs.Resources.{noResource, resourcesOf, numberAt, onBoard}
+use Rattle.board.specs.Setups.{setupOn}
 use Rattle.board.specs.Transport.{greatest}
-use Rattle.scheduler.specs.Alone.{Share, allStart, diaryOf, companionsOf, oneUnit, withCompanions, durationAlone, spanOf, spanAlone, arrival}
+use Rattle.scheduler.specs.Alone.{allStart, diaryOf, companionsOf, oneUnit, withCompanions, durationAlone, spanAlone, arrival}
 use Rattle.scheduler.specs.Plain.{startsThere}
 use Rattle.scheduler.specs.Lists.{Each, each-end, each-on, Pairs, pairs-end, pairs-on, pairs-map}
 use Rattle.scheduler.specs.Alike.{AlikeDiary, AlikeResource, Alike, NoExtra}

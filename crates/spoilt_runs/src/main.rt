@@ -72,8 +72,8 @@ fn told(t: Tally, p: Placement) -> Tally {
     let mut r = t;
     match p {
         Placement::Placed(choosing, start, end, count) => r.placed = more(t.placed),
-        Placement::Chosen(choosing) => r.chosen = more(t.chosen),
-        Placement::Nothing => r.nothing = more(t.nothing),
+        Placement::ChosenNone(choosing) => r.chosen = more(t.chosen),
+        Placement::None => r.nothing = more(t.nothing),
         Placement::Refused(n) => return refused(t, n),
     }
     r
@@ -82,8 +82,8 @@ fn told(t: Tally, p: Placement) -> Tally {
 fn is_15(p: Placement) -> bool {
     match p {
         Placement::Placed(choosing, start, end, count) => false,
-        Placement::Chosen(choosing) => false,
-        Placement::Nothing => false,
+        Placement::ChosenNone(choosing) => false,
+        Placement::None => false,
         Placement::Refused(n) => n == 15,
     }
 }
@@ -92,8 +92,8 @@ fn is_15(p: Placement) -> bool {
 fn written(p: Placement) -> usize {
     match p {
         Placement::Placed(choosing, start, end, count) => count,
-        Placement::Chosen(choosing) => 0,
-        Placement::Nothing => 0,
+        Placement::ChosenNone(choosing) => 0,
+        Placement::None => 0,
         Placement::Refused(n) => 0,
     }
 }

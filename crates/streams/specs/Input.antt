@@ -3,7 +3,7 @@ use mathlib.Core.Path.{_≡_}
 use mathlib.Core.Bool.{true, false}
 use mathlib.Core.List.{List}
 use Prim.Native.Nat.{ℕ, _+_, _-_, _≤_}
-use lib.ListN.{length, take, drop}
+use lib.ListN.{take, drop}
 use Rattle.streams.specs.declared.input.Input.{Input}
 
 -- the bytes that are unread

@@ -4,17 +4,17 @@ use mathlib.Core.Bool.{Bool, true, false, cond}
 use mathlib.Core.List.{List, [], _∷_, _++_, map}
 use Prim.Native.Nat.{ℕ, zero, suc, _+_, _-_, _^_, _≤_, _<_, max}
 use native.Mathlib.Omega.{arith}
-use lib.ListN.{getD, length, replicate, take, length-map, List·getD-eq-default, List·getD-append}
+use lib.ListN.{getD, length, replicate, take, length-map, List·getD-eq-default}
 use lib.Seq.{take-all, take-suc}
 use lib.Dec.{leb}
 use borrow.Author.Tests.{leb-true, leb-false}
 use Rattle.calendar.specs.declared.Calendar.{Calendar}
 use Rattle.calendar.specs.Valid as calendar
 use Rattle.timeline.specs.declared.ResourceTimeline.{ResourceTimeline}
-use Rattle.timeline.specs.Bookings.{Booking, bookingAt, bookingsTo, bookings, total}
+use Rattle.timeline.specs.Bookings.{Booking, bookingsTo, bookings, total}
 use Rattle.timeline.specs.Valid.{before, valid}
 use Rattle.timeline.specs.Book.{insertBooking, cells, latestEnds, diary}
-use Rattle.timeline.proofs.Rules.{CellFacts, Rules, rules, ruled}
+use Rattle.timeline.proofs.Rules.{CellFacts, rules, ruled}
 use Rattle.timeline.proofs.Rows.{none, count, booking-at}
 
 -- a booking in range that starts at ps or later

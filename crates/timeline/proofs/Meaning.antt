@@ -1,24 +1,24 @@
 -- What the definitions of a diary amount to: the least start without any bound, work without a calendar, and extra bookings.
-use mathlib.Core.Path.{_≡_, refl, sym, ap, _∙_, fun-ext}
+use mathlib.Core.Path.{_≡_, refl, ap, _∙_, fun-ext}
 use mathlib.Core.Bool.{Bool, true, false, _&&_, cond}
 use mathlib.Core.List.{List, [], _∷_}
-use mathlib.Core.Logic.{_⊎_, inl, inr, ⊎-elim}
-use Prim.Native.Nat.{ℕ, zero, suc, _+_, _-_, _≤_, _<_, max}
+use mathlib.Core.Logic.{inl}
+use Prim.Native.Nat.{ℕ, suc, _+_, _-_, _≤_, _<_, max}
 use native.Mathlib.Omega.{arith}
 use lib.Dec.{eqb}
 use borrow.Author.Tests.{eqb-true, eq-eqb}
 use Rattle.calendar.specs.declared.Calendar.{Calendar}
 use Rattle.calendar.specs.Basics.{and-split, no-way, not-both}
-use Rattle.calendar.specs.Search.{Found, nothing, at, leastFrom}
+use Rattle.calendar.specs.Search.{nothing, at, leastFrom}
 use Rattle.calendar.specs.Fits.{fits}
-use Rattle.calendar.specs.Work.{working, joint, endFrom, workEnd, lastChange, jointEnd}
-use Rattle.calendar.specs.Meaning.{Least, least-found, fits-is, working-is}
+use Rattle.calendar.specs.Work.{joint, workEnd, lastChange, jointEnd}
+use Rattle.calendar.specs.Meaning.{least-found, fits-is, working-is}
 use Rattle.calendar.proofs.Running.{run-done}
 use Rattle.timeline.specs.declared.ResourceTimeline.{ResourceTimeline}
-use Rattle.timeline.specs.Bookings.{Booking, bookings, latestEnd}
+use Rattle.timeline.specs.Bookings.{Booking, latestEnd}
 use Rattle.timeline.specs.Valid.{valid}
 use Rattle.timeline.specs.Free.{onAt, load, free}
-use Rattle.timeline.specs.Earliest.{freeOn, fitsAt, freeTo, startsAt, lastEvent, earliestFit, earliestResumable}
+use Rattle.timeline.specs.Earliest.{fitsAt, freeTo, startsAt, lastEvent, earliestFit, earliestResumable}
 use Rattle.timeline.proofs.Rules.{rules}
 use Rattle.timeline.proofs.Loading.{free-facts, free-yes}
 use Rattle.timeline.proofs.Searching.{none-ever}

@@ -5,7 +5,7 @@ use Rattle.alone.proofs.plan_of.Reads as reads
 use Rattle.alone.proofs.plan_of.Lts as lts
 use Rattle.alone.proofs.alone_on.Reads as alone-on-reads
 use Rattle.setups.proofs.transport_between.Reads as transport-between-reads
-use mathlib.Core.Path.{_≡_, refl, sym, _∙_}
+use mathlib.Core.Path.{_≡_, refl, _∙_}
 use Prim.Native.Nat.{ℕ, _-_, _≤_, _<_}
 use native.Mathlib.Omega.{arith}
 use borrow.Author.Needs.{needs}

@@ -1,7 +1,7 @@
 -- `alone::with_companions` meets its contract.
 use Rattle.alone.proofs.with_companions.Statement.{statement}
 use Rattle.alone.proofs.with_companions.Tie as tie
-use mathlib.Core.Path.{_≡_, refl, _∙_}
+use mathlib.Core.Path.{refl, _∙_}
 use Rattle.asks.specs.Steps.{startOf}
 use borrow.Author.Tests.{not-true, not-false}
 

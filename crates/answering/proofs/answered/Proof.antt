@@ -2,19 +2,18 @@
 use Rattle.answering.proofs.answered.Statement.{statement}
 use Rattle.answering.proofs.answered.Tie as tie
 use borrow.Author.Needs.{needs}
-use mathlib.Core.Path.{_≡_, refl, sym, ap, _∙_}
+use mathlib.Core.Path.{_≡_, refl, sym, _∙_}
 use mathlib.Core.Logic.{⊎-elim}
-use Prim.Native.Nat.{ℕ, _+_, _-_, _*_, _≤_, _<_}
+use Prim.Native.Nat.{_+_, _-_, _*_, _≤_}
 use native.Mathlib.Omega.{arith}
 use lib.ListN.{getD, length, length-map}
-use Rattle.board.specs.Resources.{resourceAt}
 use Rattle.board.proofs.Facts.{rules}
 use Rattle.board.proofs.Meaning.{resource-of}
 use Rattle.activity.proofs.Judging.{accepted}
 use Rattle.asks.specs.Steps.{startOf}
 use borrow.Author.Tests.{not-false}
 use Rattle.alone.proofs.Seating.{seated-start, seated-wanted}
-use Rattle.answering.specs.Tables.{foundAt, requirementAt, Kept, Answered}
+use Rattle.answering.specs.Tables.{foundAt, requirementAt, Kept}
 use Rattle.answering.proofs.Finding.{span-range, arrival-range, used-some}
 use Rattle.answering.proofs.Noting.{Through, through-start, cell-known, cell-asked, found-idle, found-asked, through-row}
 

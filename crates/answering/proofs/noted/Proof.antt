@@ -2,9 +2,8 @@
 use borrow.Author.Needs.{needs}
 use Rattle.answering.proofs.noted.Statement.{statement}
 use Rattle.answering.proofs.noted.Tie as tie
-use mathlib.Core.Path.{refl, sym, ap, _∙_}
+use mathlib.Core.Path.{refl, ap}
 use mathlib.Core.Logic.{⊎-elim}
-use Prim.Native.Nat.{ℕ}
 use lib.ListN.{set}
 use Rattle.asks.specs.Steps.{startOf}
 use Rattle.answering.specs.Tables.{numberOf}

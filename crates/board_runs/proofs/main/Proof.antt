@@ -1,7 +1,6 @@
 -- `board_runs::main` meets its contract: the invariant: what is unread lies in the buffer. The measure is the turns left.
 use borrow.Author.Needs.{needs}
 use native.Mathlib.Omega.{arith}
-use Prim.Native.Nat.{_≤_}
 use borrow.Author.Tests.{ltb-true}
 use Rattle.streams.specs.Input.{Lies}
 use Rattle.board_runs.proofs.main.Statement.{statement}

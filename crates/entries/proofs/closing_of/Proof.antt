@@ -4,8 +4,8 @@ use Rattle.entries.proofs.closing_of.Tie as tie
 use Rattle.entries.proofs.closing_of.Reads as reads
 use Rattle.entries.proofs.closing_of.Lts as lts
 use Rattle.fitting.proofs.own_timeline.Reads as own-timeline-reads
-use mathlib.Core.Path.{_≡_, refl, sym, ap, _∙_}
-use Prim.Native.Nat.{_+_, _-_, _≤_, _<_}
+use mathlib.Core.Path.{_≡_, refl}
+use Prim.Native.Nat.{_+_, _-_, _≤_}
 use native.Mathlib.Omega.{arith}
 use borrow.Author.Needs.{needs}
 use lib.ListN.{length, getD, length-map}

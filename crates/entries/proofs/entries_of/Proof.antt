@@ -9,10 +9,10 @@ use Rattle.entries.proofs.greatest_setup.Reads as greatest-setup-reads
 use Rattle.entries.proofs.held_entries.Reads as held-entries-reads
 use Rattle.entries.proofs.join_each.Reads as join-each-reads
 use Rattle.entries.proofs.parts_of.Reads as parts-of-reads
-use mathlib.Core.Path.{_≡_, refl, _∙_}
+use mathlib.Core.Path.{_≡_, _∙_}
 use Prim.Native.Nat.{_^_, _≤_}
 use native.Mathlib.Omega.{arith}
-use lib.ListN.{length, take}
+use lib.ListN.{take}
 use Rattle.board.proofs.Meaning.{resource-of}
 use Rattle.scheduler.specs.Fitting.{greatestSetup}
 use Rattle.entries.proofs.Parting.{duration-small, setups-small, span-is, entries-whole}

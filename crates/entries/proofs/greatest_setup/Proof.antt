@@ -3,7 +3,7 @@ use Rattle.entries.proofs.greatest_setup.Statement.{statement}
 use Rattle.entries.proofs.greatest_setup.Tie as tie
 use Rattle.entries.proofs.greatest_setup.Reads as reads
 use Rattle.entries.proofs.greatest_setup.Lts as lts
-use mathlib.Core.Path.{_≡_, refl, sym, _∙_}
+use mathlib.Core.Path.{_≡_, refl, _∙_}
 use mathlib.Core.Logic.{⊎-elim}
 use Prim.Native.Nat.{_-_, _≤_}
 use native.Mathlib.Omega.{arith}

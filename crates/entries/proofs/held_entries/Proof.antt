@@ -4,7 +4,7 @@ use Rattle.entries.proofs.held_entries.Tie as tie
 use Rattle.entries.proofs.held_entries.Reads as reads
 use Rattle.entries.proofs.held_entries.Lts as lts
 use Rattle.entries.proofs.no_entries.Reads as no-entries-reads
-use mathlib.Core.Path.{_≡_, refl, sym, ap, _∙_}
+use mathlib.Core.Path.{_≡_, refl, ap, _∙_}
 use mathlib.Core.Bool.{false, cond}
 use Prim.Native.Nat.{ℕ, _-_, _≤_, _<_}
 use native.Mathlib.Omega.{arith}

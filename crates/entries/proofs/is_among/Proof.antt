@@ -3,7 +3,7 @@ use Rattle.entries.proofs.is_among.Statement.{statement}
 use Rattle.entries.proofs.is_among.Tie as tie
 use Rattle.entries.proofs.is_among.Reads as reads
 use Rattle.entries.proofs.is_among.Lts as lts
-use mathlib.Core.Path.{_≡_, refl, sym, _∙_}
+use mathlib.Core.Path.{_≡_, refl, sym}
 use mathlib.Core.Bool.{false}
 use mathlib.Core.List.{map}
 use Prim.Native.Nat.{_-_, _≤_}

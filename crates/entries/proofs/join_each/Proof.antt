@@ -4,17 +4,16 @@ use Rattle.entries.proofs.join_each.Tie as tie
 use Rattle.entries.proofs.join_each.Reads as reads
 use Rattle.entries.proofs.join_each.Lts as lts
 use Rattle.entries.proofs.is_among.Reads as is-among-reads
-use mathlib.Core.Path.{_≡_, refl, sym, _∙_}
-use mathlib.Core.Bool.{false}
+use mathlib.Core.Path.{_≡_, sym, _∙_}
 use mathlib.Core.List.{[], map}
 use mathlib.Core.Logic.{⊎-elim}
 use Prim.Native.Nat.{_-_, _≤_}
 use native.Mathlib.Omega.{arith}
 use borrow.Author.Needs.{needs}
 use borrow.Author.Tests.{not-true, not-false}
-use lib.ListN.{length, getD, take, length-map}
+use lib.ListN.{length, take, length-map}
 use Rattle.scheduler.specs.Fitting.{joinEach}
-use Rattle.entries.specs.Parts.{numberIn, Small}
+use Rattle.entries.specs.Parts.{numberIn}
 use Rattle.entries.proofs.Joining.{Joined, joined-none, joined-few, small-at, join-skip, join-on, join-room}
 use Prim.Native.Nat.{_<_}
 

@@ -6,7 +6,7 @@ use mathlib.Core.Logic.{⊎-elim}
 use Prim.Native.Nat.{ℕ, suc, _-_, _^_, _≤_, _<_}
 use native.Mathlib.Omega.{arith}
 use borrow.Author.Needs.{needs}
-use Rattle.calendar.specs.Search.{nothing, at}
+use Rattle.calendar.specs.Search.{at}
 use Rattle.scheduler.specs.Shares.{sharesTo}
 use Rattle.scheduler.specs.Together.{Calm}
 use Rattle.timeline.proofs.Stepping.{next-still}

@@ -1,10 +1,10 @@
 -- `offer_lines::put_entries` meets its contract: the invariant: the first i entries stand behind one another. The measure is how many are left.
 use borrow.Author.Needs.{needs}
 use native.Mathlib.Omega.{arith}
-use mathlib.Core.Path.{_≡_, refl, sym, ap, _∙_}
-use mathlib.Core.List.{List, []}
-use Prim.Native.Nat.{ℕ, _+_, _-_, _*_, _≤_}
-use lib.ListN.{length, take, getD}
+use mathlib.Core.Path.{_≡_, refl}
+use mathlib.Core.List.{[]}
+use Prim.Native.Nat.{_+_, _-_, _*_, _≤_}
+use lib.ListN.{length, take}
 use Rattle.streams.specs.Text.{Put}
 use Rattle.streams.specs.Laws.{then, put-none}
 use Rattle.offer_lines.specs.Lines.{entriesText}

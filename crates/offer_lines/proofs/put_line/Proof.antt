@@ -1,7 +1,6 @@
 -- `offer_lines::put_line` meets its contract: by the cases of the answer.
 use borrow.Author.Needs.{needs}
 use native.Mathlib.Omega.{arith}
-use mathlib.Core.Path.{ap}
 use Rattle.streams.specs.Laws.{put-none}
 use Rattle.records.specs.Lines as slot
 use Rattle.offer_lines.specs.Lines.{lineText}

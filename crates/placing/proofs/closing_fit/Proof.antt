@@ -6,7 +6,7 @@ use Rattle.placing.proofs.closing_fit.Reads as reads
 use Rattle.placing.proofs.closing_fit.Lts as lts
 use Rattle.fitting.proofs.fit_resumable.Reads as fit-resumable-reads
 use Rattle.fitting.proofs.fit_unbroken.Reads as fit-unbroken-reads
-use mathlib.Core.Path.{_≡_, refl, sym, ap, _∙_}
+use mathlib.Core.Path.{refl, sym, ap, _∙_}
 use native.Mathlib.Omega.{arith}
 use Rattle.asks.specs.Steps.{startOf}
 use Rattle.fitting.specs.Jointly.{fitOf}

@@ -7,9 +7,9 @@ use Rattle.placing.proofs.fitted.Lts as lts
 use Rattle.entries.proofs.closing_of.Reads as closing-of-reads
 use Rattle.placing.proofs.closing_fit.Reads as closing-fit-reads
 use Rattle.placing.proofs.write.Reads as write-reads
-use mathlib.Core.Path.{_≡_, refl, sym, ap, _∙_}
+use mathlib.Core.Path.{ap, _∙_}
 use native.Mathlib.Omega.{arith}
-use lib.ListN.{length, take}
+use lib.ListN.{take}
 use lib.Seq.{length-take-le}
 use Rattle.fitting.specs.Jointly.{fitOf}
 use Rattle.placing.proofs.Telling.{fitted-placed, fitted-none}

@@ -6,7 +6,7 @@ use Rattle.placing.proofs.order_refusal.Reads as reads
 use Rattle.placing.proofs.order_refusal.Lts as lts
 use Rattle.activity.proofs.core.refusal.Reads as refusal-reads
 use Rattle.calendar.proofs.is_valid.Reads as is-valid-reads
-use mathlib.Core.Path.{_≡_, refl, sym, _∙_}
+use mathlib.Core.Path.{refl, sym, _∙_}
 use borrow.Author.Tests.{not-true, not-false, lt-ltb, le-ltb}
 use Rattle.placing.specs.Told.{orderRefusal}
 

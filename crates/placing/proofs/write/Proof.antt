@@ -4,7 +4,7 @@ use Rattle.placing.proofs.write.Tie as tie
 use Rattle.placing.proofs.write.Reads as reads
 use Rattle.placing.proofs.write.Lts as lts
 use Rattle.scheduler.proofs.row_of.Reads as row-of-reads
-use mathlib.Core.Path.{_≡_, refl, sym, ap, _∙_}
+use mathlib.Core.Path.{_≡_, refl, ap, _∙_}
 use Prim.Native.Nat.{_-_, _≤_}
 use native.Mathlib.Omega.{arith}
 use borrow.Author.Needs.{needs}

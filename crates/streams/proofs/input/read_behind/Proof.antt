@@ -1,6 +1,5 @@
 -- `streams::input::read_behind` meets its contract: the part that is read into begins behind the first n bytes.
 use borrow.Author.Needs.{needs}
-use native.Mathlib.Omega.{arith}
 use borrow.Rule.Slice.PartMut.{take-put}
 use Prim.Native.Nat.{ℕ, _-_}
 use lib.ListN.{length}

@@ -1,9 +1,9 @@
 -- `streams::input::to_front` meets its contract: the invariant: the first i bytes are moved. The measure is how many are left.
 use borrow.Author.Needs.{needs}
 use native.Mathlib.Omega.{arith}
-use mathlib.Core.Path.{_≡_, refl, sym, ap, _∙_}
+use mathlib.Core.Path.{_≡_, refl}
 use Prim.Native.Nat.{_+_, _-_, _≤_}
-use lib.ListN.{length, take, length-set}
+use lib.ListN.{length, length-set}
 use Rattle.streams.proofs.Moving.{Moving, moving-none, moving-more, moving-end}
 use Rattle.streams.proofs.input.to_front.Statement.{statement}
 use Rattle.streams.proofs.input.to_front.Tie as tie

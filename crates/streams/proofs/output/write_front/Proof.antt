@@ -1,12 +1,6 @@
 use borrow.Author.Needs.{needs}
-use borrow.Author.Count.{below-none, below-more}
-use borrow.Author.Tests.{not-true, not-false, ltb-true, ltb-false}
-use mathlib.Core.Path.{_≡_, refl, sym, ap, _∙_}
-use mathlib.Core.Bool.{true, false}
-use mathlib.Core.Logic.{⊎-elim, inl, inr}
-use Prim.Native.Nat.{ℕ, suc, zero, _+_, _-_, _*_, _^_, _≤_, _<_, max}
+use Prim.Native.Nat.{_-_}
 use native.Mathlib.Omega.{arith}
-use lib.ListN.{length, getD}
 -- `streams::output::write_front` meets its contract: a front of a slice is as long as it says.
 use native.Mathlib.Omega.{arith}
 use lib.ListN.{length-take}

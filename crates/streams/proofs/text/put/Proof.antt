@@ -1,7 +1,5 @@
 -- `streams::text::put` meets its contract: all bytes are the first as many as there are.
 use borrow.Author.Needs.{needs}
-use native.Mathlib.Omega.{arith}
-use mathlib.Core.Path.{_≡_, refl, sym, ap, _∙_}
 use lib.Seq.{take-length}
 use Rattle.streams.proofs.text.put.Statement.{statement}
 use Rattle.streams.proofs.text.put.Tie as tie

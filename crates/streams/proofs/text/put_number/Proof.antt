@@ -1,11 +1,9 @@
 -- `streams::text::put_number` meets its contract: the digits are the fewest, so they are the definition's.
 use borrow.Author.Needs.{needs}
 use native.Mathlib.Omega.{arith}
-use mathlib.Core.Path.{_≡_, refl, sym, ap, _∙_}
-use mathlib.Core.List.{List}
-use Prim.Native.Nat.{ℕ}
-use lib.ListN.{length, take, length-take}
-use Rattle.streams.specs.Text.{Put, decimal}
+use mathlib.Core.Path.{_≡_, _∙_}
+use lib.ListN.{take, length-take}
+use Rattle.streams.specs.Text.{decimal}
 use Rattle.streams.proofs.Figures.{digits-decimal}
 use Rattle.streams.proofs.text.put_number.Statement.{statement}
 use Rattle.streams.proofs.text.put_number.Tie as tie

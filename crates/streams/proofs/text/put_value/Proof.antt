@@ -1,7 +1,6 @@
 -- `streams::text::put_value` meets its contract: a space, and the number behind it.
 use borrow.Author.Needs.{needs}
 use native.Mathlib.Omega.{arith}
-use mathlib.Core.Path.{_≡_, refl, sym, ap, _∙_}
 use mathlib.Core.List.{[], _∷_}
 use Rattle.streams.specs.Laws.{then}
 use Rattle.streams.proofs.text.put_value.Statement.{statement}

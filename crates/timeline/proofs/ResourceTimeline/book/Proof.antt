@@ -2,16 +2,14 @@
 use borrow.Author.Needs.{needs}
 use borrow.Author.Tests.{not-false, ltb-false, leb-false}
 use mathlib.Core.Path.{_≡_, refl, sym, _∙_}
-use mathlib.Core.Bool.{Bool, true, false, not, _||_, cond}
+use mathlib.Core.Bool.{Bool, true, false, not, _||_}
 use Prim.Native.Nat.{ℕ, zero, suc, _^_, _≤_, _<_}
 use native.Mathlib.Omega.{arith}
 use lib.Dec.{leb, ltb}
 use Rattle.calendar.specs.Basics.{unrefused}
 use Rattle.timeline.specs.declared.ResourceTimeline.{ResourceTimeline}
-use Rattle.timeline.specs.declared.Booked.{Booked}
-use Rattle.timeline.specs.Bookings.{bookings}
 use Rattle.timeline.specs.Valid.{valid}
-use Rattle.timeline.specs.Book.{bookRefusal, taken, diary, insertBooking, bookReply}
+use Rattle.timeline.specs.Book.{bookRefusal, taken, bookReply}
 use Rattle.timeline.proofs.ResourceTimeline.book.Statement.{statement}
 use Rattle.timeline.proofs.ResourceTimeline.book.Tie as tie
 
