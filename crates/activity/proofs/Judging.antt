@@ -19,7 +19,8 @@ use Rattle.activity.specs.declared.Activity.{Activity}
 use Rattle.activity.specs.Durations.{untimed, timingOf}
 use Rattle.activity.specs.Check.{every, releaseRight, short, timingShort, timingSpeed, quantity, quantityRight, quantitiesRight, usageRight, requirementsOf, timesRight, activityRefusal, checkReply, heldRight}
 use Rattle.activity.specs.Lawful.{Short, LawfulTiming, Lawful}
-use Rattle.activity.proofs.Passing.{every-at, every-in, every-of, noRequirement}
+use Rattle.activity.proofs.Passing.{every-at, every-in, every-of}
+use Rattle.activity.specs.Check.{noRequirement}
 
 -- the timings of an order in range
 abbrev pub allShort : Activity → Bool

@@ -1,14 +1,14 @@
--- Masks against the definitions over bits.
-use mathlib.Core.Path.{_≡_, refl, ap}
+-- Required skills as masks.
+use mathlib.Core.Path.{_≡_, refl}
 use mathlib.Core.Bool.{Bool, true, false}
 use Prim.Native.Nat.{ℕ, zero, suc, _/_, _%_, _^_, _<_}
 use native.Mathlib.Nat.{pow-suc}
 use native.Mathlib.Omega.{arith}
-use lib.Bits.{bitAnd, and-step, and-zero-l, and-mask}
-use lib.Dec.{eqb, leb}
+use lib.Bits.{bitAnd, and-step, and-zero-l}
+use lib.Dec.{leb}
 use borrow.Author.Tests.{le-leb, leb-true}
 use Rattle.calendar.specs.Basics.{and-split}
-use Rattle.activity.specs.Serving.{bit, covers}
+use Rattle.activity.specs.Serving.{covers}
 
 -- a and b is a: every bit of a is set in b
 pub covers-yes : (n a b : ℕ) → bitAnd a b ≡ a → covers n a b ≡ true
@@ -34,7 +34,3 @@ covers-no n a b lt ne = go (covers n a b) refl
     go : (t : Bool) → covers n a b ≡ t → t ≡ false
     go true e = absurd (ne (covers-back n a b lt e))
     go false e = refl
-
-pub bit-and : (m k : ℕ) → eqb (bitAnd (m / 2 ^ k) 1) 1 ≡ bit m k
-unfolding bit
-bit-and m k = ap (λ (r : ℕ). eqb r 1) (and-mask (m / 2 ^ k) 1)

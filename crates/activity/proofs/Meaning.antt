@@ -27,7 +27,8 @@ use Rattle.activity.specs.declared.Release.{Release}
 use Rattle.activity.specs.declared.Release.the-variants.{Absent, At}
 use Rattle.speeds.specs.Speeds.{one, isSpeed, halfUp, roundAway, processAt, Near, Within}
 use Rattle.activity.specs.Durations.{timingOf, heldTimings, total, greater, greatest, product, settled, durationOn}
-use Rattle.activity.specs.Serving.{bit, covers, candidate, serves}
+use Rattle.calendar.specs.Sets.{bit}
+use Rattle.activity.specs.Serving.{covers, candidate, serves}
 use Rattle.activity.specs.Ready.{readyOf}
 use Rattle.activity.specs.Check.{releaseRight}
 use Rattle.activity.specs.Lawful.{LawfulFixed, Lawful}

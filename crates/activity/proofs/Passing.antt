@@ -9,7 +9,7 @@ use lib.ListN.{length, getD, take, drop, length-take, drop-of-length-le}
 use lib.Seq.{drop-cons, getD-take}
 use Rattle.calendar.specs.Basics.{and-split, and-join}
 use Rattle.activity.specs.declared.ResourceRequirement.{ResourceRequirement}
-use Rattle.activity.specs.Check.{every, quantity}
+use Rattle.activity.specs.Check.{every, quantity, noRequirement}
 
 module _ {A : Type 0} (P : A → Bool) (xs : List A) where
   every-step : (i : ℕ) (d : A) → i < length xs → every P (drop i xs) ≡ P (getD xs i d) && every P (drop (i + 1) xs)
@@ -56,9 +56,6 @@ pub every-of : {A : Type 0} (P : A → Bool) (xs : List A) (d : A) → ((i : ℕ
 unfolding every
 every-of P [] d f = refl
 every-of P (x ∷ xs) d f = and-join (P x) (every P xs) (f 0 (omega arith)) (every-of P xs d (λ i l. f (suc i) (omega arith)))
-
-abbrev pub noRequirement : ResourceRequirement
-noRequirement = record { kind = 0; candidates = 0; skills = 0; quantity = 0; usage = 0 }
 
 module _ (qs : List ResourceRequirement) (n i : ℕ) where
   pub quantity-step : i < n → n ≤ length qs → quantity (drop i (take n qs)) ≡ getD qs i noRequirement .quantity + quantity (drop (i + 1) (take n qs))

@@ -1,9 +1,11 @@
--- The checks of an order in the replies of 'Placing', and the reply of asking for its durations.
-use Prim.Native.Nat.{ℕ, zero, suc, _+_, _^_}
+-- 01, the replies of 'Placing': the checks of an order, and the reply of asking for its durations.
+use Prim.Native.Nat.{ℕ, _+_}
 use mathlib.Core.Bool.{Bool, true, not, _&&_, _||_, cond}
 use mathlib.Core.List.{List, [], _∷_}
 use lib.ListN.{take}
 use lib.Dec.{leb, ltb}
+use Rattle.calendar.specs.Refusals.{refusedOr}
+use Rattle.calendar.specs.Limits.{lastInstant, longestDuration, mostUnits}
 use Rattle.calendar.specs.Valid.{valid}
 use Rattle.activity.specs.declared.ActivityDuration.{ActivityDuration}
 use Rattle.activity.specs.declared.ResourceTiming.{ResourceTiming}
@@ -24,11 +26,11 @@ every P (x ∷ xs) = P x && every P xs
 -- an instant is 0 to 2^42; an absent release is not checked
 unfoldable pub releaseRight : Release → Bool
 releaseRight Absent = true
-releaseRight (At release) = leb release (2 ^ 42)
+releaseRight (At release) = leb release lastInstant
 
 -- setup, process, teardown: 0 to 2^36 each
 unfoldable pub short : ActivityDuration → Bool
-short d = leb (d .setup) (2 ^ 36) && (leb (d .process) (2 ^ 36) && leb (d .teardown) (2 ^ 36))
+short d = leb (d .setup) longestDuration && (leb (d .process) longestDuration && leb (d .teardown) longestDuration)
 
 abbrev pub timingShort : ResourceTiming → Bool
 timingShort Nothing = true
@@ -55,7 +57,11 @@ quantitiesRight qs = every quantityRight qs && leb (quantity qs) 8
 
 -- units 1 to 10,000
 unfoldable pub usageRight : ResourceRequirement → Bool
-usageRight q = leb 1 (q .usage) && leb (q .usage) 10000
+usageRight q = leb 1 (q .usage) && leb (q .usage) mostUnits
+
+-- a requirement of nothing, which stands past the last one
+abbrev pub noRequirement : ResourceRequirement
+noRequirement = record { kind = 0; candidates = 0; skills = 0; quantity = 0; usage = 0 }
 
 -- the requirements that count
 abbrev pub requirementsOf : Activity → List ResourceRequirement
@@ -63,7 +69,7 @@ requirementsOf a = take (a .len) (a .requirements)
 
 -- ready, release and every duration of the order are in range
 unfoldable pub timesRight : Activity → ℕ → Bool
-timesRight a ready = leb ready (2 ^ 42) && (releaseRight (a .release) && (short (a .duration) && every (λ t. timingShort (t .timing)) (a .timings)))
+timesRight a ready = leb ready lastInstant && (releaseRight (a .release) && (short (a .duration) && every (λ t. timingShort (t .timing)) (a .timings)))
 
 -- 5 category; 1 ready, release or a duration; 6 requirements over 4, a quantity under 1 or total over 8; 3 usage; 8 speed; 0 for none
 unfoldable pub activityRefusal : Activity → ℕ → ℕ
@@ -91,13 +97,9 @@ unfoldable pub replyOf : DurationAnswer → DurationReply
 replyOf (Lasts d) = lasts d
 replyOf (Refused n) = refused n
 
-unfoldable pub refusedOr : ℕ → DurationReply → DurationReply
-refusedOr zero reply = reply
-refusedOr (suc n) reply = refused (suc n)
-
 -- 15 before all else; 5 the numbers held; then the order's own refusals, at ready 0
 unfoldable pub durationReply : Activity → List ℕ → ℕ → DurationReply
 durationReply a held count =
     cond (not (valid (a .calendar))) (refused 15)
     (cond (not (heldRight held count)) (refused 5)
-    (refusedOr (activityRefusal a 0) (lasts (durationOn (a .duration) (a .timings) (take count held)))))
+    (refusedOr refused (activityRefusal a 0) (lasts (durationOn (a .duration) (a .timings) (take count held)))))

@@ -1,4 +1,4 @@
--- The durations of an order over several resources in holding order.
+-- 01, 'Durations, setups, transport': the durations of an order over several resources in holding order.
 use Prim.Native.Nat.{ℕ, _+_}
 use mathlib.Core.Bool.{cond}
 use mathlib.Core.List.{List, [], _∷_, map}

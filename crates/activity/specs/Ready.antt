@@ -1,4 +1,4 @@
--- From when an order may start.
+-- 01, 'Placing': from when an order may start.
 use Prim.Native.Nat.{ℕ, max}
 use Rattle.activity.specs.declared.Release.{Release}
 use Rattle.activity.specs.declared.Release.the-variants.{Absent, At}

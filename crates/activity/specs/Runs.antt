@@ -1,4 +1,4 @@
--- The marked runs M10 and M12's durations, and the edges of speeds, on the definitions.
+-- Durations and the edges of speeds, on the definitions; the doubles of the marked runs.
 use mathlib.Core.Path.{_≡_, refl}
 use mathlib.Core.Bool.{true, false}
 use mathlib.Core.List.{[], _∷_}
@@ -14,7 +14,8 @@ use Rattle.activity.specs.declared.Release.the-variants.{Absent}
 use Rattle.activity.specs.declared.Activity.{Activity}
 use Rattle.speeds.specs.Speeds.{one, quarter, four, halfUp, roundAway, processAt, isSpeed}
 use Rattle.activity.specs.Durations.{untimed, greatest, product, durationOn}
-use Rattle.activity.specs.Serving.{bit, covers, candidate, serves}
+use Rattle.calendar.specs.Sets.{bit}
+use Rattle.activity.specs.Serving.{covers, candidate, serves}
 use Rattle.activity.specs.Check.{every, releaseRight, short, quantity, quantitiesRight, usageRight, timesRight, activityRefusal}
 
 -- 2.0, 1.5, 0.5

@@ -1,12 +1,9 @@
--- Which resources serve a requirement.
-use Prim.Native.Nat.{ℕ, zero, suc, _/_, _%_, _^_}
+-- 01, 'Placing': which resources serve a requirement.
+use Prim.Native.Nat.{ℕ, zero, suc, _/_, _%_}
 use mathlib.Core.Bool.{Bool, true, _&&_, cond}
 use lib.Dec.{leb, eqb}
+use Rattle.calendar.specs.Sets.{bit}
 use Rattle.activity.specs.declared.ResourceRequirement.{ResourceRequirement}
-
--- number k is in the set m
-unfoldable pub bit : ℕ → ℕ → Bool
-bit m k = eqb (m / 2 ^ k % 2) 1
 
 -- of the lowest n bits every one that is required is set
 unfoldable pub covers : ℕ → ℕ → ℕ → Bool

@@ -1,15 +1,9 @@
-// Judging an order, its durations over the resources held, which resource serves, and from when: for the crates above.
-use crate::Activity;
+// An order's durations over the resources held, which resource serves, and from when (models/activity.rs; 01, 'Durations, setups,
+// transport' and 'Placing'): for the crates above.
 use crate::ActivityDuration;
 use crate::Release;
 use crate::ResourceRequirement;
 use crate::Timed;
-use crate::range::is_instant;
-use crate::range::is_short;
-use crate::range::quantities_right;
-use crate::range::timings_short;
-use crate::range::usages_right;
-use crate::speed::speeds_right;
 use crate::timing::Fixed;
 use crate::timing::greater;
 use crate::timing::times;
@@ -20,47 +14,7 @@ ghost use lib.ListN.{getD, take};
 ghost use Rattle.activity.specs.Durations.{durationOn};
 ghost use Rattle.activity.specs.Serving.{serves as servesOf};
 ghost use Rattle.activity.specs.Ready.{readyOf};
-ghost use Rattle.activity.specs.Check.{activityRefusal};
 ghost use Rattle.activity.specs.Lawful.{Lawful};
-
-// The number with which the order is refused, 0 for none: 5 category, 1 ready, release or a duration, 6 requirements or their
-// quantities, 3 usage, 8 a speed. Each over the whole order before the next.
-pub fn refusal(activity: Activity, ready: u64) -> u8
-    ensures { λ r. ⌜ r ≡ activityRefusal activity ready ⌝ }
-{
-    if activity.category > 15 {
-        return 5;
-    }
-    if ready > 4398046511104 {
-        return 1;
-    }
-    let release = activity.release;
-    if !is_instant(release) {
-        return 1;
-    }
-    if !is_short(activity.duration) {
-        return 1;
-    }
-    let timings = activity.timings;
-    if !timings_short(timings) {
-        return 1;
-    }
-    let len = activity.len;
-    if len > 4 {
-        return 6;
-    }
-    let requirements = activity.requirements;
-    if !quantities_right(requirements, len) {
-        return 6;
-    }
-    if !usages_right(requirements, len) {
-        return 3;
-    }
-    if !speeds_right(timings) {
-        return 8;
-    }
-    0
-}
 
 // The durations over the first `count` resources held, in holding order (the Rust's `timed_duration`).
 pub fn duration_on(

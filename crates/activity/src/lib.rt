@@ -1,14 +1,9 @@
-// An order: its durations, the timings of its resources, its requirements, and the checks of it (models/activity.rs; 01, 'Durations,
-// setups, transport' up to speeds, the orders of 'Placing' and the checks of an order in the replies of 'Placing').
+// An order: its durations, the timings of its resources and its requirements (models/activity.rs; 01, 'Durations, setups, transport' up to
+// speeds, and the orders of 'Placing'). The checks of it are the crate `order_checks`.
 use calendar::Calendar;
 
 pub mod core;
-mod range;
-mod speed;
 mod timing;
-
-ghost use mathlib.Core.Path.{_≡_};
-ghost use Rattle.activity.specs.Check.{checkReply, heldRight, replyOf, durationReply};
 
 pub struct ActivityDuration {
     pub setup: u64,
@@ -61,51 +56,4 @@ pub struct Activity {
 pub enum DurationAnswer {
     Lasts(ActivityDuration),
     Refused(u8),
-}
-
-// The number with which an order at this ready is refused, 0 for none: 15 its own calendar breaks the rules, then as `core::refusal`.
-pub fn check(activity: Activity, ready: u64) -> u8
-    ensures { λ r. ⌜ r ≡ checkReply activity ready ⌝ }
-{
-    if !calendar::is_valid(activity.calendar) {
-        return 15;
-    }
-    core::refusal(activity, ready)
-}
-
-// At most eight numbers are held, each of a resource.
-fn held_right(held: [u8; 8], count: usize) -> bool
-    ensures { λ r. ⌜ r ≡ heldRight held count ⌝ }
-{
-    if count > 8 {
-        return false;
-    }
-    let mut i: usize = 0;
-    while i < count {
-        if held[i] > 15 {
-            return false;
-        }
-        i += 1;
-    }
-    true
-}
-
-// The order's durations over the first `count` resources held, or a refusal: 15 its calendar, 5 the numbers held, then as
-// `core::refusal` at ready 0.
-pub fn duration_on(activity: Activity, held: [u8; 8], count: usize) -> DurationAnswer
-    ensures { λ r. ⌜ replyOf r ≡ durationReply activity held count ⌝ }
-{
-    if !calendar::is_valid(activity.calendar) {
-        return DurationAnswer::Refused(15);
-    }
-    if !held_right(held, count) {
-        return DurationAnswer::Refused(5);
-    }
-    let refusal = core::refusal(activity, 0);
-    if refusal != 0 {
-        return DurationAnswer::Refused(refusal);
-    }
-    let base = activity.duration;
-    let timings = activity.timings;
-    DurationAnswer::Lasts(core::duration_on(base, timings, held, count))
 }

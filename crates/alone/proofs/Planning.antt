@@ -16,7 +16,8 @@ use Rattle.board.specs.declared.Resource.{Resource}
 use Rattle.board.specs.declared.Board.{Board}
 use Rattle.board.specs.Setups.{setupOn}
 use Rattle.board.specs.Resources.{resourceAt, numberAt}
-use Rattle.board.specs.Transport.{greatest, anywhere}
+use Rattle.board.specs.Transport.{greatest}
+use Rattle.board.specs.Places.{anywhere}
 use Rattle.board.specs.Valid.{valid, resourceRight}
 use Rattle.board.proofs.Meaning.{resource-rules, resource-of, transport-is, greatest-small, setup-small}
 use Rattle.scheduler.specs.Alone.{arrival}

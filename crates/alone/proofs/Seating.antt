@@ -20,7 +20,8 @@ use Rattle.scheduler.specs.Alone.{oneUnit, diaryOf, resourceIn, companionsOf, w
 use Rattle.scheduler.specs.Shares.{sharesTo, Wanted}
 use Rattle.scheduler.specs.Arrays.{take-next, map-append, every-append, every-off}
 use Rattle.alone.specs.declared.Members.{Members}
-use Rattle.alone.specs.Plans.{startWith, Known, Seated}
+use Rattle.alone.specs.Plans.{Known, Seated}
+use Rattle.scheduler.specs.Alone.{startWith}
 use Rattle.alone.proofs.Knowing.{place-on, place-none}
 
 one-each : (usage k : ℕ) → k < 4 → getD (usage ∷ replicate 4 1) (k + 1) 0 ≡ 1

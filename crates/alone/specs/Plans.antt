@@ -1,4 +1,4 @@
--- What the code keeps of each resource alone, and the start that it answers with its companions.
+-- What the code keeps of each resource alone, and of the places of its companions.
 use Prim.Native.Nat.{ℕ, _+_, _<_}
 use mathlib.Core.Path.{_≡_}
 use mathlib.Core.Bool.{Bool, true, cond}
@@ -14,11 +14,6 @@ use Rattle.board.specs.Places.{placeOf}
 use Rattle.scheduler.specs.Alone.{earliestOf, companionsOf, withCompanions, durationAlone, spanAlone, arrival}
 use Rattle.alone.specs.declared.Plan.{Plan}
 use Rattle.alone.specs.declared.Members.{Members}
-
--- the least start where its companions also fit; a companion not on the board rules it out
-unfoldable pub startWith : Board → Resource → ℕ → Bool → ℕ → ℕ → Found
-startWith b r usage resumable span from =
-    cond (every (onBoard b) (companionsOf r)) (earliestOf resumable span (withCompanions b r usage) from) nothing
 
 -- the place of each number, looked up once
 abbrev pub Known : Board → List ℕ → Type 0

@@ -3,16 +3,16 @@
 use activity::Activity;
 use activity::ActivityDuration;
 use activity::Timed;
-use asks::core::Start;
 use board::Board;
 use board::Resource;
+use earliest::Start;
 use together::Group;
 ghost use mathlib.Core.Path.{_≡_};
 ghost use mathlib.Core.Bool.{true, cond};
 ghost use mathlib.Core.List.{[], _∷_};
 ghost use Prim.Native.Nat.{ℕ, _+_, _^_, _≤_, _<_};
 ghost use lib.ListN.{getD, replicate};
-ghost use Rattle.asks.specs.Steps.{startOf};
+ghost use Rattle.earliest.specs.Steps.{startOf};
 ghost use Rattle.activity.specs.Check.{activityRefusal};
 ghost use Rattle.activity.specs.Durations.{durationOn};
 ghost use Rattle.activity.specs.Lawful.{Lawful};

@@ -13,7 +13,7 @@ use Rattle.activity.specs.declared.Activity.{Activity}
 use Rattle.activity.specs.Serving.{serves}
 use Rattle.activity.specs.Check.{every, requirementsOf, activityRefusal}
 use Rattle.activity.proofs.Judging.{accepted}
-use Rattle.activity.proofs.Passing.{noRequirement}
+use Rattle.activity.specs.Check.{noRequirement}
 use Rattle.activity.proofs.Meaning.{duration-bounded}
 use Rattle.board.specs.declared.Resource.{Resource}
 use Rattle.board.specs.declared.Board.{Board}
@@ -27,7 +27,7 @@ use Rattle.scheduler.specs.Latest.{last-small, together-answers, together-is}
 use Rattle.scheduler.specs.Ruled.{all-kept, all-there}
 use Rattle.scheduler.specs.Answering.{Kept, Answers}
 use Rattle.alone.specs.declared.Plan.{Plan}
-use Rattle.alone.specs.Plans.{startWith}
+use Rattle.scheduler.specs.Alone.{startWith}
 use Rattle.answering.specs.Tables.{PlannedFor, foundAt, numberOf}
 
 -- the spans and arrivals of a plan are in range

@@ -18,7 +18,7 @@ use Rattle.board.specs.declared.Board.{Board}
 use Rattle.board.specs.Resources.{resourceAt}
 use Rattle.board.specs.Valid as board
 use Rattle.alone.specs.declared.Plan.{Plan}
-use Rattle.alone.specs.Plans.{startWith}
+use Rattle.scheduler.specs.Alone.{startWith}
 use Rattle.answering.specs.declared.Table.{Table}
 use Rattle.answering.specs.Tables.{PlannedFor, numberOf, foundAt, requirementAt, startFor, Kept}
 use Rattle.answering.proofs.Finding.{found-later}

@@ -8,11 +8,12 @@ use Rattle.activity.specs.declared.ResourceRequirement.{ResourceRequirement}
 use Rattle.activity.specs.declared.Activity.{Activity}
 use Rattle.activity.specs.Serving.{serves}
 use Rattle.activity.specs.Check.{activityRefusal}
-use Rattle.activity.proofs.Passing.{noRequirement}
+use Rattle.activity.specs.Check.{noRequirement}
 use Rattle.board.specs.declared.Board.{Board}
 use Rattle.board.specs.Resources.{resourceAt}
 use Rattle.alone.specs.declared.Plan.{Plan}
-use Rattle.alone.specs.Plans.{startWith, Planned}
+use Rattle.alone.specs.Plans.{Planned}
+use Rattle.scheduler.specs.Alone.{startWith}
 use Rattle.answering.specs.declared.Table.{Table}
 
 -- the plan of an order that is not refused, at some ready

@@ -2,14 +2,15 @@
 // resources in `place_activity` in scheduler/simple.rs; 01, 'Choosing').
 use activity::Activity;
 use alone::Plan;
-use asks::core::Start;
 use board::Board;
+use calendar::limits::NEVER;
+use earliest::Start;
 ghost use mathlib.Core.Path.{_≡_};
 ghost use mathlib.Core.Bool.{true, _&&_};
 ghost use Prim.Native.Nat.{_^_, _≤_, _<_, max};
-ghost use lib.ListN.{getD, set, replicate};
+ghost use lib.ListN.{getD, set};
 ghost use lib.Dec.{leb};
-ghost use Rattle.asks.specs.Steps.{startOf};
+ghost use Rattle.earliest.specs.Steps.{startOf};
 ghost use Rattle.board.specs.Valid.{valid};
 ghost use Rattle.alone.specs.Plans.{Known};
 ghost use Rattle.answering.specs.Tables.{PlannedFor, numberOf, Kept, Answered};
@@ -21,17 +22,6 @@ pub struct Table {
     pub instant: u64,
     pub asked: [u64; 64],
     pub starts: [u64; 64],
-}
-
-// Nothing is known yet: no instant lies between 1 and 0.
-pub fn nothing_asked() -> Table
-    ensures { λ r. ⌜ r ≡ record { instant = 0; asked = replicate 64 1; starts = replicate 64 0 } ⌝ }
-{
-    Table {
-        instant: 0,
-        asked: [1; 64],
-        starts: [0; 64],
-    }
 }
 
 // Cell k is known from t on.
@@ -54,7 +44,7 @@ fn noted(table: Table, k: usize, t: u64, s: Start) -> Table
     next.asked[k] = t;
     next.starts[k] = match s {
         Start::At(x) => x,
-        Start::Nothing => 9223372036854775808,
+        Start::Nothing => NEVER,
     };
     next
 }
@@ -83,7 +73,7 @@ pub fn answered(b: Board, a: Activity, p: Plan, places: [usize; 16], t: u64, tab
                     let fourth = b.resources[m.places[3]];
                     let fifth = b.resources[m.places[4]];
                     let g = alone::group_of(r, second, third, fourth, fifth, q.usage);
-                    let from = asks::core::later(t, p.arrivals[i]);
+                    let from = columns::later(t, p.arrivals[i]);
                     s = alone::with_companions(g, m.right, a.resumable, p.spans[i], from);
                 }
                 next = noted(next, 16 * j + i, t, s);

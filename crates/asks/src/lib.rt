@@ -1,10 +1,10 @@
 // Asking a diary: the least start of an unbroken span and of resumable work (scheduler/timeline.rs; 01, the replies of 'Asking a
 // diary').
+use calendar::limits::LAST_ASKED;
+use calendar::limits::LONGEST_SPAN;
+use calendar::limits::MOST_UNITS;
 use joint::WorkEnd;
 use timeline::ResourceTimeline;
-
-pub mod core;
-
 ghost use mathlib.Core.Path.{_≡_};
 ghost use Rattle.timeline.specs.Ask.{askRefusal, fitReply, resumableReply};
 ghost use Rattle.asks.specs.Answers.{replyOf};
@@ -20,16 +20,16 @@ pub enum Answer {
 fn ask_refusal(from: u64, span: u64, units: u32) -> u8
     ensures { λ r. ⌜ r ≡ askRefusal from span units ⌝ }
 {
-    if from > 8796093022208 {
+    if from > LAST_ASKED {
         return 1;
     }
-    if span > 9007199254740992 {
+    if span > LONGEST_SPAN {
         return 1;
     }
     if units < 1 {
         return 3;
     }
-    if units > 10000 {
+    if units > MOST_UNITS {
         return 3;
     }
     0
@@ -46,10 +46,10 @@ pub fn earliest_fit(t: ResourceTimeline, from: u64, span: u64, units: u32) -> An
     if refusal != 0 {
         return Answer::Refused(refusal);
     }
-    let found = core::earliest_fit(t, from, span, units);
+    let found = earliest::earliest_fit(t, from, span, units);
     match found {
-        core::Start::At(s) => Answer::Fit(s, s + span),
-        core::Start::Nothing => Answer::None,
+        earliest::Start::At(s) => Answer::Fit(s, s + span),
+        earliest::Start::Nothing => Answer::None,
     }
 }
 
@@ -64,7 +64,7 @@ pub fn earliest_resumable(t: ResourceTimeline, from: u64, work: u64, units: u32)
     if refusal != 0 {
         return Answer::Refused(refusal);
     }
-    let r = core::earliest_resumable(t, from, work, units);
+    let r = earliest::earliest_resumable(t, from, work, units);
     let end = r.end;
     match end {
         WorkEnd::At(e) => Answer::Fit(r.start, e),

@@ -1,25 +1,14 @@
--- Sets as masks, and the greatest transport as its loop makes it.
-use borrow.Author.Tests.{eq-eqb, ne-eqb}
+-- The greatest transport as its loop makes it.
 use mathlib.Core.Bool.{true, false}
 use mathlib.Core.List.{List}
-use mathlib.Core.Path.{_≡_, refl, sym, _∙_}
-use Prim.Native.Nat.{ℕ, _+_, _*_, _/_, _%_, _^_, max}
+use mathlib.Core.Path.{_≡_, refl}
+use Prim.Native.Nat.{ℕ, _+_, _*_, max}
 use native.Mathlib.Numerals.{add-one}
 use native.Mathlib.Omega.{arith}
 use lib.ListN.{getD}
-use Rattle.board.specs.Transport.{bit, greatest, anywhere}
-use lib.Bits.{bitAnd, and-mask}
-
-pub bit-and : (m k : ℕ) → bitAnd (m / 2 ^ k) 1 ≡ m / 2 ^ k % 2
-bit-and m k = and-mask (m / 2 ^ k) 1
-
-pub bit-yes : (m k : ℕ) → bitAnd (m / 2 ^ k) 1 ≡ 1 → bit m k ≡ true
-unfolding bit
-bit-yes m k e = eq-eqb (m / 2 ^ k % 2) 1 (sym (bit-and m k) ∙ e)
-
-pub bit-no : (m k : ℕ) → (bitAnd (m / 2 ^ k) 1 ≡ 1 → ⊥) → bit m k ≡ false
-unfolding bit
-bit-no m k e = ne-eqb (m / 2 ^ k % 2) 1 (λ h. e (bit-and m k ∙ h))
+use Rattle.calendar.specs.Sets.{bit}
+use Rattle.board.specs.Transport.{greatest}
+use Rattle.board.specs.Places.{anywhere}
 
 module _ (transport : List ℕ) (origins to n : ℕ) where
   pub greatest-hit : bit origins n ≡ true

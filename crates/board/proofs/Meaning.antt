@@ -14,7 +14,9 @@ use Rattle.calendar.specs.Basics.{and-split, lt-or-ge}
 use Rattle.calendar.specs.Search.{at}
 use Rattle.board.specs.Resources.{resourceAt, numberAt, lookupTo, lookup, onBoard}
 use Rattle.board.specs.Setups.{entryOr, matrixSetup, setupMs}
-use Rattle.board.specs.Transport.{bit, greatest, anywhere, transportTo}
+use Rattle.calendar.specs.Sets.{bit}
+use Rattle.board.specs.Transport.{greatest, transportTo}
+use Rattle.board.specs.Places.{anywhere}
 use Rattle.board.specs.Valid.{every, durationRight, entryRight, isZero, ownRight, entryCell, matrixRight, companionCell, companionsRight, lastRight, resourceRight, transportCell, transportRight, valid}
 use Rattle.board.specs.declared.Board.{Board}
 use Rattle.board.specs.declared.LastCategory.{LastCategory}

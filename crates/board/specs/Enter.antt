@@ -5,6 +5,7 @@ use mathlib.Core.List.{List, _++_}
 use lib.ListN.{length, getD, set, replicate}
 use lib.Dec.{leb, ltb}
 use lib.IntN.{ℤ, pos, negsuc}
+use Rattle.calendar.specs.Limits.{longestDuration}
 use Rattle.calendar.specs.Add.{empty}
 use Rattle.calendar.specs.Search.{Found, nothing, at}
 use Rattle.timeline.specs.declared.ResourceTimeline.{ResourceTimeline}
@@ -161,7 +162,7 @@ unfoldable pub transportRefusal : Board → ℕ → ℕ → ℕ → ℕ
 transportRefusal b from to ms =
     cond (not (valid b)) 15
     (cond (not (onBoard b from && onBoard b to)) 5
-    (cond (ltb (2 ^ 36) ms) 1 0))
+    (cond (ltb longestDuration ms) 1 0))
 
 abbrev pub withTransport : Board → ℕ → ℕ → ℕ → Board
 withTransport b from to ms = record { resources = b .resources; len = b .len; transport = set (b .transport) (16 * from + to) ms }

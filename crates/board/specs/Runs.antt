@@ -11,7 +11,8 @@ use Rattle.board.specs.declared.Resource.{Resource}
 use Rattle.board.specs.declared.Board.{Board}
 use Rattle.board.specs.Resources.{lookupTo, isAt}
 use Rattle.board.specs.Setups.{entryOr, matrixSetup, setupMs}
-use Rattle.board.specs.Transport.{bit, greatest, transportTo}
+use Rattle.calendar.specs.Sets.{bit}
+use Rattle.board.specs.Transport.{greatest, transportTo}
 use Rattle.board.specs.Enter.{blankMatrix, blankResource, newMatrix, withTransition, withInitial}
 
 -- default 7, initial 9; the pair (1, 2) is 5, the first entry of 3 is 4, and every other entry is absent

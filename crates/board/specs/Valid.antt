@@ -6,6 +6,7 @@ use mathlib.Core.List.{List}
 use lib.ListN.{getD}
 use lib.Dec.{leb, ltb, eqb}
 use lib.IntN.{ℤ, pos, negsuc}
+use Rattle.calendar.specs.Limits.{longestDuration}
 use Rattle.calendar.specs.declared.Calendar.{Calendar}
 use Rattle.calendar.specs.Valid as calendar
 use Rattle.timeline.specs.declared.ResourceTimeline.{ResourceTimeline}
@@ -27,12 +28,12 @@ every P n = everyFrom P 0 n
 
 -- a duration: 0 to 2^36
 unfoldable pub durationRight : ℤ → Bool
-durationRight (pos ms) = leb ms (2 ^ 36)
+durationRight (pos ms) = leb ms longestDuration
 durationRight (negsuc k) = false
 
 -- an entry of a matrix: a duration, or -1
 unfoldable pub entryRight : ℤ → Bool
-entryRight (pos ms) = leb ms (2 ^ 36)
+entryRight (pos ms) = leb ms longestDuration
 entryRight (negsuc k) = eqb k 0
 
 unfoldable pub isZero : ℤ → Bool
@@ -110,7 +111,7 @@ cellRight b i =
 
 -- cell 16 * from + to: 0 to 2^36, and 0 between numbers that are not both on the board
 abbrev pub transportCell : ℕ → Bool → Bool → Bool
-transportCell ms from to = leb ms (2 ^ 36) && (from && to || eqb ms 0)
+transportCell ms from to = leb ms longestDuration && (from && to || eqb ms 0)
 
 unfoldable pub transportRight : Board → ℕ → Bool
 transportRight b k = transportCell (getD (b .transport) k 0) (onBoard b (k / 16)) (onBoard b (k % 16))

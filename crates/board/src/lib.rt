@@ -1,16 +1,14 @@
 // A board: resources in board order with their companions, diaries, transition matrices and last categories, and the transport
-// between them (models/resource.rs, models/constraint.rs; 01, setups and transport, and the board of 'Placing').
+// between them (models/resource.rs, models/constraint.rs; 01, setups and transport, and the board of 'Placing'). Its rules are checked by the
+// crate `board_rules`.
 use calendar::Calendar;
 use timeline::ResourceTimeline;
-
-pub mod core;
-mod rules;
-
-pub use rules::duration_right;
-pub use rules::entry_right;
 ghost use mathlib.Core.Path.{_≡_};
-ghost use Rattle.board.specs.Valid.{valid};
+ghost use Rattle.board.specs.Valid.{durationRight, entryRight};
 ghost use Rattle.board.specs.Enter.{blankDiary, blankMatrix, emptyBoard};
+
+// A duration, and an entry of a matrix, is at most 2^36.
+const LONGEST: i64 = 68719476736;
 
 // The setups of a resource by category: 16 * last + this, and the first entries; -1 is an absent entry. Not present: 0 throughout.
 pub struct TransitionMatrix {
@@ -58,12 +56,24 @@ pub struct Looked {
     pub timeline: ResourceTimeline,
 }
 
-// The board keeps the rules.
-pub fn is_valid(b: Board) -> bool
-    ensures { λ r. ⌜ r ≡ valid b ⌝ }
+// A duration, 0 to 2^36.
+pub fn duration_right(ms: i64) -> bool
+    ensures { λ r. ⌜ r ≡ durationRight ms ⌝ }
 {
-    let p = core::places_of(b);
-    p.right
+    if ms < 0 {
+        return false;
+    }
+    ms <= LONGEST
+}
+
+// An entry of a matrix: a duration, or -1.
+pub fn entry_right(ms: i64) -> bool
+    ensures { λ r. ⌜ r ≡ entryRight ms ⌝ }
+{
+    if ms < -1 {
+        return false;
+    }
+    ms <= LONGEST
 }
 
 // The diary of a cell past the length.

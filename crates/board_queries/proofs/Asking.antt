@@ -10,7 +10,7 @@ use Rattle.calendar.specs.Basics.{lt-or-ge}
 use lib.Dec.{eqb}
 use borrow.Author.Tests.{lt-ltb, le-ltb, le-leb, lt-leb, eq-eqb, ne-eqb}
 use Rattle.calendar.specs.Search.{Found, nothing, at}
-use Rattle.records.specs.Numbers.{little}
+use Rattle.slot_text.specs.Numbers.{little}
 use Rattle.activity.specs.declared.ResourceRequirement.{ResourceRequirement}
 use Rattle.activity.specs.Check.{DurationReply, durationReply}
 use Rattle.activity.specs.Serving.{serves}
@@ -19,67 +19,56 @@ use Rattle.board.specs.declared.LastCategory.the-variants.{Nothing, Category}
 use Rattle.board.specs.declared.Board.{Board}
 use Rattle.board.specs.Resources.{resourceAt, lookup, isAt}
 use Rattle.board.specs.Setups.{setupMs}
-use Rattle.board.specs.Transport.{greatest, anywhere}
+use Rattle.board.specs.Transport.{greatest}
+use Rattle.board.specs.Places.{anywhere}
 use Rattle.board.specs.Places.{placeOf}
 use Rattle.board.specs.Valid.{valid, lastRight}
-use Rattle.board.proofs.Facts.{off-above, rules}
+use Rattle.board.proofs.Facts.{rules}
 use Rattle.board.proofs.Seeing.{lookup-below}
 use Rattle.board.proofs.Meaning.{transport-is}
-use Rattle.board_records.specs.declared.Desk.{Desk}
+use Rattle.desk.specs.declared.Desk.{Desk}
 use Rattle.board_records.specs.declared.Stepped.{Stepped}
 use Rattle.board_queries.specs.declared.Turn.{Turn}
-use Rattle.board_queries.specs.declared.Place.{Place}
+use Rattle.matrices.specs.declared.Entry.{Entry}
+use Rattle.matrices.specs.Entry.{entryAt, entryFor}
+use Rattle.entering.proofs.Entering.{on-small}
+use Rattle.calendar.specs.Refusals.{refusedOr, refused-by}
 use Rattle.board_queries.specs.declared.Answer.{Answer}
 use Rattle.board_queries.specs.declared.Answer.the-variants.{Nothing as Silent, Setup, Transport, Serves, No, Refused}
-use Rattle.board_records.specs.Bodies.{byte, fixedLen, lenOf, whole, bodyLen}
-use Rattle.board_records.proofs.Lengths.{unknown, of-fixed, there}
+use Rattle.bodies.specs.Bodies.{byte, fixedLen, lenOf, whole, bodyLen}
+use Rattle.bodies.proofs.Lengths.{unknown, of-fixed, there}
 use Rattle.board_records.specs.Records.{stepReply}
-use Rattle.board_queries.specs.Asks.{placeRefusal, Located, durationLine, refusedOr, placeIn, lastOf, setupReply, transportReply, servesReply, heldAt, askLen, askReply, runLen, told, ends, turnReply}
+use Rattle.board_queries.specs.Asks.{placeRefusal, durationLine, lastOf, setupReply, transportReply, servesReply, heldAt, askLen, askReply, runLen, told, ends, turnReply}
+
+-- what looking up a number answers: its refusal, or where it stands
+pub record Located (b : Board) (number : ℕ) (r : Entry) : Type 0 where
+  pub number-refusal : r .refusal ≡ placeRefusal b number
+  pub rules-kept : r .refusal ≡ 0 → valid b ≡ true
+  pub stands : r .refusal ≡ 0 → lookup b number ≡ at (r .place)
+  pub low : r .refusal ≡ 0 → (r .place < 16) × (number < 16)
 
 -- looking up a number
 module _ (b : Board) (number : ℕ) where
-  pub place-15 : valid b ≡ false → Located b number (record { refusal = 15; place = 0 })
-  unfolding placeRefusal
-  place-15 v = record { number-refusal = rw v refl; rules-kept = λ e. absurd (omega arith); stands = λ e. absurd (omega arith); low = λ e. absurd (omega arith) }
-
-  pub place-off : valid b ≡ true → lookup b number ≡ nothing → Located b number (record { refusal = 5; place = 0 })
-  unfolding placeRefusal isAt
-  place-off v f = record { number-refusal = rw (v, f) refl; rules-kept = λ e. absurd (omega arith); stands = λ e. absurd (omega arith); low = λ e. absurd (omega arith) }
-
-  pub place-above : valid b ≡ true → 15 < number → Located b number (record { refusal = 5; place = 0 })
-  place-above v l = place-off v (off-above b number v l)
-
-  -- a place of 16 says: not on the board
-  pub nowhere : valid b ≡ true → 16 ≤ placeOf (lookup b number) → lookup b number ≡ nothing
-  unfolding placeOf
-  nowhere v l = go (lookup b number) refl l
+  pub located : (r : Entry) → r ≡ entryFor b number → Located b number r
+  unfolding placeRefusal entryFor entryAt isAt
+  located r e = rw e (go (valid b) refl (lookup b number) refl)
     where
-      go : (f : Found) → lookup b number ≡ f → 16 ≤ placeOf f → f ≡ nothing
-      go nothing e m = refl
-      go (at k) e m = absurd (omega (arith, lookup-below b (b .len) number k e, rules b v .few, m))
-
-  pub somewhere : (i : ℕ) → i < 16 → i ≡ placeOf (lookup b number) → lookup b number ≡ at i
-  unfolding placeOf
-  somewhere i l e = go (lookup b number) e
-    where
-      go : (f : Found) → i ≡ placeOf f → f ≡ at i
-      go nothing m = absurd (omega arith)
-      go (at k) m = ap at (sym m)
-
-  pub place-on : (i : ℕ) → valid b ≡ true → i < 16 → number ≤ 15 → i ≡ placeOf (lookup b number) → Located b number (record { refusal = 0; place = i })
-  unfolding placeRefusal isAt
-  place-on i v l h e =
-      let f : lookup b number ≡ at i = somewhere i l e in
-      record { number-refusal = rw (v, f) refl; rules-kept = λ z. v; stands = λ z. f; low = λ z. (l, omega arith) }
+      go : (v : Bool) → valid b ≡ v → (f : Found) → lookup b number ≡ f → Located b number (cond (not v) (record { refusal = 15; place = 0 }) (entryAt f))
+      go false v f g =
+          record { number-refusal = rw v refl; rules-kept = λ z. absurd (omega arith); stands = λ z. absurd (omega arith); low = λ z. absurd (omega arith) }
+      go true v nothing g =
+          record { number-refusal = rw (v, g) refl; rules-kept = λ z. absurd (omega arith); stands = λ z. absurd (omega arith); low = λ z. absurd (omega arith) }
+      go true v (at k) g =
+          let l : k < 16 = omega (arith, lookup-below b (b .len) number k g, rules b v .few) in
+          record { number-refusal = rw (v, g) refl; rules-kept = λ z. v; stands = λ z. g; low = λ z. (l, omega (arith, on-small b number v (rw g refl))) }
 
   -- the refusal of a number, then the rest
-  pub refused-place : (r : Place) (rest : Answer) → Located b number r → (r .refusal ≡ 0 → ⊥) → Refused (r .refusal) ≡ refusedOr (placeRefusal b number) rest
-  unfolding refusedOr
-  refused-place r rest q h = rw (← q .number-refusal, ne-eqb (r .refusal) 0 h) refl
+  pub refused-place : (r : Entry) (rest : Answer) → Located b number r → (r .refusal ≡ 0 → ⊥) → Refused (r .refusal) ≡ refusedOr Refused (placeRefusal b number) rest
+  refused-place r rest q h = rw (← q .number-refusal) (refused-by Refused (r .refusal) rest h)
 
-  pub taken-place : (r : Place) (a rest : Answer) → Located b number r → r .refusal ≡ 0 → a ≡ rest → a ≡ refusedOr (placeRefusal b number) rest
+  pub taken-place : (r : Entry) (a rest : Answer) → Located b number r → r .refusal ≡ 0 → a ≡ rest → a ≡ refusedOr Refused (placeRefusal b number) rest
   unfolding refusedOr
-  taken-place r a rest q h e = rw (← q .number-refusal, eq-eqb (r .refusal) 0 h) e
+  taken-place r a rest q h e = rw (sym (q .number-refusal) ∙ h) e
 
 pub no-last : (c : ℕ) → 15 < c → (Nothing ≡ lastOf c) × (lastRight Nothing ≡ true)
 unfolding lastOf lastRight
@@ -89,7 +78,7 @@ pub a-last : (c : ℕ) → c ≤ 15 → (Category c ≡ lastOf c) × (lastRight 
 unfolding lastOf lastRight
 a-last c h = (rw (le-ltb 15 c h) refl, le-leb c 15 h)
 
-module _ (b : Board) (number last category own : ℕ) (r : Place) (q : Located b number r) where
+module _ (b : Board) (number last category own : ℕ) (r : Entry) (q : Located b number r) where
   pub setup-place : (r .refusal ≡ 0 → ⊥) → Refused (r .refusal) ≡ setupReply b number last category own
   unfolding setupReply
   setup-place h = refused-place b number r _ q h
@@ -104,11 +93,11 @@ module _ (b : Board) (number last category own : ℕ) (r : Place) (q : Located b
 
   pub setup-is : (before : LastCategory) (ms : ℕ) → r .refusal ≡ 0 → category ≤ 15 → own ≤ 68719476736 → before ≡ lastOf last
       → ms ≡ setupMs (resourceAt b (r .place) .matrix) before category own → Setup ms ≡ setupReply b number last category own
-  unfolding setupReply placeIn
+  unfolding setupReply placeOf
   setup-is before ms h l m f e =
       taken-place b number r _ _ q h (rw (le-ltb 15 category l, le-ltb (2 ^ 36) own m, q .stands h, ← f, ← e) refl)
 
-module _ (b : Board) (origins to : ℕ) (r : Place) (q : Located b to r) where
+module _ (b : Board) (origins to : ℕ) (r : Entry) (q : Located b to r) where
   pub transport-place : (r .refusal ≡ 0 → ⊥) → Refused (r .refusal) ≡ transportReply b origins to
   unfolding transportReply
   transport-place h = refused-place b to r _ q h
@@ -117,17 +106,17 @@ module _ (b : Board) (origins to : ℕ) (r : Place) (q : Located b to r) where
   unfolding transportReply
   transport-to ms h e = taken-place b to r _ _ q h (ap Transport (e ∙ transport-is b (q .rules-kept h) origins to (q .low h .1)))
 
-module _ (b : Board) (w : ResourceRequirement) (number : ℕ) (r : Place) (q : Located b number r) where
+module _ (b : Board) (w : ResourceRequirement) (number : ℕ) (r : Entry) (q : Located b number r) where
   pub serves-place : (r .refusal ≡ 0 → ⊥) → Refused (r .refusal) ≡ servesReply b w number
   unfolding servesReply
   serves-place h = refused-place b number r _ q h
 
   pub serves-yes : r .refusal ≡ 0 → serves w number (resourceAt b (r .place) .kind) (resourceAt b (r .place) .skills) ≡ true → Serves ≡ servesReply b w number
-  unfolding servesReply placeIn
+  unfolding servesReply placeOf
   serves-yes h e = taken-place b number r _ _ q h (rw (q .stands h, e) refl)
 
   pub serves-no : r .refusal ≡ 0 → serves w number (resourceAt b (r .place) .kind) (resourceAt b (r .place) .skills) ≡ false → No ≡ servesReply b w number
-  unfolding servesReply placeIn
+  unfolding servesReply placeOf
   serves-no h e = taken-place b number r _ _ q h (rw (q .stands h, e) refl)
 
 pub ask-40 : (k : ℕ) → k ≡ 40 → askLen k ≡ 9

@@ -1,11 +1,11 @@
 -- The asks of the runs beside the Rust, kinds 40 to 43.
-use mathlib.Core.Path.{_≡_}
-use Prim.Native.Nat.{ℕ, _+_, _-_, _^_, _<_}
+use Prim.Native.Nat.{ℕ, _+_, _-_}
 use mathlib.Core.Bool.{true, false, not, cond}
 use mathlib.Core.List.{List, [], _∷_}
 use lib.Dec.{leb, ltb, eqb}
-use Rattle.calendar.specs.Search.{Found, nothing, at}
-use Rattle.records.specs.Numbers.{little}
+use Rattle.calendar.specs.Limits.{longestDuration}
+use Rattle.calendar.specs.Refusals.{refusedOr}
+use Rattle.slot_text.specs.Numbers.{little}
 use Rattle.activity.specs.declared.ResourceRequirement.{ResourceRequirement}
 use Rattle.activity.specs.Check.{DurationReply, lasts, refused, durationReply}
 use Rattle.activity.specs.Serving.{serves}
@@ -13,40 +13,25 @@ use Rattle.board.specs.declared.LastCategory.{LastCategory}
 use Rattle.board.specs.declared.LastCategory.the-variants.{Nothing, Category}
 use Rattle.board.specs.declared.Board.{Board}
 use Rattle.board.specs.Resources.{resourceAt, lookup, onBoard}
+use Rattle.board.specs.Places.{placeOf}
 use Rattle.board.specs.Setups.{setupMs}
 use Rattle.board.specs.Transport.{transportTo}
 use Rattle.board.specs.Valid.{valid}
-use Rattle.board_records.specs.declared.Desk.{Desk}
+use Rattle.desk.specs.declared.Desk.{Desk}
 use Rattle.board_records.specs.declared.Stepped.{Stepped}
 use Rattle.board_queries.specs.declared.Turn.{Turn}
-use Rattle.board_queries.specs.declared.Place.{Place}
 use Rattle.board_queries.specs.declared.Answer.{Answer}
 use Rattle.board_queries.specs.declared.Answer.the-variants.{Nothing as Silent, Lasts, Setup, Transport, Serves, No, Refused}
-use Rattle.board_records.specs.Bodies.{byte, whole, bodyLen}
+use Rattle.bodies.specs.Bodies.{byte, whole, bodyLen}
 use Rattle.board_records.specs.Records.{stepReply}
 
 -- 15 a board that breaks the rules; 5 a number that is not on it
 unfoldable pub placeRefusal : Board → ℕ → ℕ
 placeRefusal b number = cond (not (valid b)) 15 (cond (not (onBoard b number)) 5 0)
 
--- what looking up a number answers: its refusal, or where it stands
-pub record Located (b : Board) (number : ℕ) (r : Place) : Type 0 where
-  pub number-refusal : r .refusal ≡ placeRefusal b number
-  pub rules-kept : r .refusal ≡ 0 → valid b ≡ true
-  pub stands : r .refusal ≡ 0 → lookup b number ≡ at (r .place)
-  pub low : r .refusal ≡ 0 → (r .place < 16) × (number < 16)
-
 unfoldable pub durationLine : DurationReply → Answer
 durationLine (lasts d) = Lasts (d .setup) (d .process) (d .teardown)
 durationLine (refused n) = Refused n
-
-unfoldable pub refusedOr : ℕ → Answer → Answer
-refusedOr n answer = cond (eqb n 0) answer (Refused n)
-
--- the resource at the place found, past the array where there is none
-unfoldable pub placeIn : Found → ℕ
-placeIn nothing = 16
-placeIn (at i) = i
 
 -- a category that was last; above 15 for none
 unfoldable pub lastOf : ℕ → LastCategory
@@ -55,18 +40,18 @@ lastOf category = cond (ltb 15 category) Nothing (Category category)
 -- 5 a category above 15; 1 a setup above 2^36
 unfoldable pub setupReply : Board → ℕ → ℕ → ℕ → ℕ → Answer
 setupReply b number last category own =
-    refusedOr (placeRefusal b number)
+    refusedOr Refused (placeRefusal b number)
     (cond (ltb 15 category) (Refused 5)
-    (cond (ltb (2 ^ 36) own) (Refused 1)
-    (Setup (setupMs (resourceAt b (placeIn (lookup b number)) .matrix) (lastOf last) category own))))
+    (cond (ltb longestDuration own) (Refused 1)
+    (Setup (setupMs (resourceAt b (placeOf (lookup b number)) .matrix) (lastOf last) category own))))
 
 unfoldable pub transportReply : Board → ℕ → ℕ → Answer
-transportReply b origins to = refusedOr (placeRefusal b to) (Transport (transportTo b origins to))
+transportReply b origins to = refusedOr Refused (placeRefusal b to) (Transport (transportTo b origins to))
 
 unfoldable pub servesReply : Board → ResourceRequirement → ℕ → Answer
 servesReply b q number =
-    refusedOr (placeRefusal b number)
-    (cond (serves q number (resourceAt b (placeIn (lookup b number)) .kind) (resourceAt b (placeIn (lookup b number)) .skills)) Serves No)
+    refusedOr Refused (placeRefusal b number)
+    (cond (serves q number (resourceAt b (placeOf (lookup b number)) .kind) (resourceAt b (placeOf (lookup b number)) .skills)) Serves No)
 
 abbrev pub heldAt : List ℕ → ℕ → List ℕ
 heldAt bs i =

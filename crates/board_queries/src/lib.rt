@@ -4,18 +4,20 @@ use activity::DurationAnswer;
 use activity::ResourceRequirement;
 use board::Board;
 use board::LastCategory;
-use board_records::Desk;
 use board_records::Stepped;
-use board_records::body_len;
 use board_records::step;
-use records::number;
+use bodies::body_len;
+use bodies::wide;
+use calendar::limits::LONGEST_DURATION;
+use desk::Desk;
+use slot_text::number;
 ghost use mathlib.Core.Path.{_≡_};
 ghost use mathlib.Core.Bool.{true};
 ghost use Prim.Native.Nat.{_+_, _≤_, _<_};
 ghost use lib.ListN.{length};
 ghost use Rattle.activity.specs.Check.{replyOf};
 ghost use Rattle.board.specs.Valid.{lastRight};
-ghost use Rattle.board_queries.specs.Asks.{Located, heldAt, lastOf, durationLine, setupReply, transportReply, servesReply, askLen, askReply, told as toldOf, ends, runLen, turnReply};
+ghost use Rattle.board_queries.specs.Asks.{heldAt, lastOf, durationLine, setupReply, transportReply, servesReply, askLen, askReply, told as toldOf, ends, runLen, turnReply};
 
 // What a record answers; `Nothing` prints nothing.
 pub enum Answer {
@@ -26,42 +28,6 @@ pub enum Answer {
     Serves,
     No,
     Refused(u8),
-}
-
-// The refusal of a number by the board, 0 for none; then its place.
-struct Place {
-    refusal: u8,
-    place: usize,
-}
-
-fn place_of(board: Board, number: u8) -> Place
-    ensures { λ r. ⌜ Located board number r ⌝ }
-{
-    let p = board::core::places_of(board);
-    if !p.right {
-        return Place {
-            refusal: 15,
-            place: 0,
-        };
-    }
-    if number > 15 {
-        return Place {
-            refusal: 5,
-            place: 0,
-        };
-    }
-    let places = p.places;
-    let i = places[number as usize];
-    if i >= 16 {
-        return Place {
-            refusal: 5,
-            place: 0,
-        };
-    }
-    Place {
-        refusal: 0,
-        place: i,
-    }
 }
 
 fn lasting(a: DurationAnswer) -> Answer
@@ -88,14 +54,14 @@ fn last_of(category: u8) -> LastCategory
 fn setup(board: Board, number: u8, last: u8, category: u8, own: u64) -> Answer
     ensures { λ r. ⌜ r ≡ setupReply board number last category own ⌝ }
 {
-    let p = place_of(board, number);
+    let p = matrices::entry_for(board, number);
     if p.refusal != 0 {
         return Answer::Refused(p.refusal);
     }
     if category > 15 {
         return Answer::Refused(5);
     }
-    if own > 68719476736 {
+    if own > LONGEST_DURATION {
         return Answer::Refused(1);
     }
     let i = p.place;
@@ -110,7 +76,7 @@ fn setup(board: Board, number: u8, last: u8, category: u8, own: u64) -> Answer
 fn transport(board: Board, origins: u16, to: u8) -> Answer
     ensures { λ r. ⌜ r ≡ transportReply board origins to ⌝ }
 {
-    let p = place_of(board, to);
+    let p = matrices::entry_for(board, to);
     if p.refusal != 0 {
         return Answer::Refused(p.refusal);
     }
@@ -123,7 +89,7 @@ fn transport(board: Board, origins: u16, to: u8) -> Answer
 fn serves(board: Board, requirement: ResourceRequirement, number: u8) -> Answer
     ensures { λ r. ⌜ r ≡ servesReply board requirement number ⌝ }
 {
-    let p = place_of(board, number);
+    let p = matrices::entry_for(board, number);
     if p.refusal != 0 {
         return Answer::Refused(p.refusal);
     }
@@ -165,12 +131,6 @@ fn ask_len(kind: u8) -> usize
     }
 }
 
-fn wide(b: u8) -> usize
-    ensures { λ r. ⌜ (r ≡ b) × (r < 256) ⌝ }
-{
-    b as usize
-}
-
 // What an ask answers, its body beginning at `at`.
 fn ask(desk: Desk, kind: u8, bytes: &[u8], at: usize) -> Answer
     requires { ⌜ (40 ≤ kind) × (kind ≤ 43) × (at + askLen kind ≤ length (now bytes)) ⌝ }
@@ -178,7 +138,7 @@ fn ask(desk: Desk, kind: u8, bytes: &[u8], at: usize) -> Answer
 {
     if kind == 40 {
         let held = held_at(bytes, at + 1);
-        return lasting(activity::duration_on(desk.activity, held, wide(bytes[at])));
+        return lasting(order_checks::duration_on(desk.activity, held, wide(bytes[at])));
     }
     if kind == 41 {
         let own = number(bytes, at + 3, 8);

@@ -12,8 +12,8 @@ use borrow.Author.Tests.{lt-ltb, le-ltb, eq-eqb, ne-eqb}
 use Rattle.calendar.specs.declared.Calendar.{Calendar}
 use Rattle.calendar.specs.Add.{empty}
 use Rattle.timeline.specs.declared.ResourceTimeline.{ResourceTimeline}
-use Rattle.timeline.specs.Book.{newDiary}
-use Rattle.records.specs.Numbers.{little}
+use Rattle.timeline.specs.Diary.{newDiary}
+use Rattle.slot_text.specs.Numbers.{little}
 use Rattle.activity.specs.declared.ActivityDuration.{ActivityDuration}
 use Rattle.activity.specs.declared.ResourceTiming.{ResourceTiming}
 use Rattle.activity.specs.declared.ResourceTiming.the-variants.{Speed, Duration}
@@ -21,9 +21,9 @@ use Rattle.activity.specs.declared.ResourceRequirement.{ResourceRequirement}
 use Rattle.activity.specs.declared.Release.{Release}
 use Rattle.activity.specs.declared.Release.the-variants.{Absent, At}
 use Rattle.activity.specs.declared.Activity.{Activity}
-use Rattle.board_records.specs.declared.Desk.{Desk}
-use Rattle.board_records.specs.Bodies.{byte}
-use Rattle.board_records.specs.Desk.{orderWith}
+use Rattle.desk.specs.declared.Desk.{Desk}
+use Rattle.bodies.specs.Bodies.{byte}
+use Rattle.desk.specs.Desk.{orderWith}
 use Rattle.board_records.specs.Orders.{durationAt, releaseOf, orderBy, orderAt, flagAbove, orderDoes, withRequirement, requirementAt, withTiming, timingAt, partReply}
 
 pub released : (p n : ℕ) → p ≡ 1 → At n ≡ releaseOf p n

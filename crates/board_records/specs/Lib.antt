@@ -1,7 +1,5 @@
--- What records of kinds 1 to 4 and 16 to 24 do (docs/RECORDS.md): what is in hand, the bodies, the order, each record; then
+-- What records of kinds 1 to 4 and 16 to 24 do (docs/RECORDS.md): the order, each record; then
 -- runs on the definitions.
-pub mod Desk
-pub mod Bodies
 pub mod Orders
 pub mod Records
 pub mod Runs

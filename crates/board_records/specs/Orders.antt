@@ -8,8 +8,8 @@ use lib.Dec.{ltb, eqb}
 use lib.Ieee.{binary64, ofBits}
 use Rattle.calendar.specs.declared.Calendar.{Calendar}
 use Rattle.calendar.specs.Add.{empty}
-use Rattle.timeline.specs.Book.{newDiary}
-use Rattle.records.specs.Numbers.{little}
+use Rattle.timeline.specs.Diary.{newDiary}
+use Rattle.slot_text.specs.Numbers.{little}
 use Rattle.activity.specs.declared.ActivityDuration.{ActivityDuration}
 use Rattle.activity.specs.declared.ResourceTiming.{ResourceTiming}
 use Rattle.activity.specs.declared.ResourceTiming.the-variants.{Speed, Duration}
@@ -17,11 +17,11 @@ use Rattle.activity.specs.declared.ResourceRequirement.{ResourceRequirement}
 use Rattle.activity.specs.declared.Release.{Release}
 use Rattle.activity.specs.declared.Release.the-variants.{Absent, At}
 use Rattle.activity.specs.declared.Activity.{Activity}
-use Rattle.board_records.specs.declared.Desk.{Desk}
+use Rattle.desk.specs.declared.Desk.{Desk}
 use Rattle.board_records.specs.declared.Stepped.{Stepped}
 use Rattle.board_records.specs.declared.order.Ordered.{Ordered}
-use Rattle.board_records.specs.Desk.{orderWith}
-use Rattle.board_records.specs.Bodies.{byte}
+use Rattle.desk.specs.Desk.{orderWith}
+use Rattle.bodies.specs.Bodies.{byte}
 
 -- setup, process, teardown (8 each)
 abbrev pub durationAt : List ℕ → ℕ → ActivityDuration

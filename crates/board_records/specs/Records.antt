@@ -6,17 +6,17 @@ use lib.ListN.{take, drop}
 use lib.IntN.{ℤ, pos, negsuc}
 use lib.Dec.{leb, ltb, eqb}
 use Rattle.timeline.specs.Ask.{fit, none, refused}
-use Rattle.timeline.specs.Book.{newDiary}
-use Rattle.records.specs.Numbers.{little}
-use Rattle.records.specs.Lines.{Printed, nothing, line}
+use Rattle.timeline.specs.Diary.{newDiary}
+use Rattle.slot_text.specs.Numbers.{little}
+use Rattle.slot_text.specs.Lines.{Printed, nothing, line}
 use Rattle.records.specs.Records.{Done, recordDoes}
 use Rattle.board.specs.declared.Board.{Board}
 use Rattle.board.specs.declared.Entered.{Entered}
 use Rattle.board.specs.Enter.{addResourceReply, setMatrixReply, setTransitionReply, setInitialReply, setTransportReply}
-use Rattle.board_records.specs.declared.Desk.{Desk}
+use Rattle.desk.specs.declared.Desk.{Desk}
 use Rattle.board_records.specs.declared.Stepped.{Stepped}
 use Rattle.board_records.specs.declared.order.Ordered.{Ordered}
-use Rattle.board_records.specs.Bodies.{byte}
+use Rattle.bodies.specs.Bodies.{byte}
 use Rattle.board_records.specs.Orders.{orderDoes, partReply}
 
 -- a signed number of 8 bytes

@@ -2,7 +2,7 @@
 use mathlib.Core.Path.{_≡_, refl}
 use mathlib.Core.List.{[], _∷_}
 use lib.IntN.{pos, negsuc}
-use Rattle.board_records.specs.Bodies.{fixedLen, lenOf, whole, bodyLen}
+use Rattle.bodies.specs.Bodies.{fixedLen, lenOf, whole, bodyLen}
 use Rattle.board_records.specs.Records.{signed}
 
 -- -1, the least and the greatest signed number

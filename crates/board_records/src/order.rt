@@ -1,5 +1,4 @@
 // The order in hand: a new one, its requirements and its timings (docs/RECORDS.md, kinds 21 to 24). Its values are taken unchecked.
-use crate::Desk;
 use crate::Stepped;
 use activity::Activity;
 use activity::ActivityDuration;
@@ -8,67 +7,22 @@ use activity::ResourceRequirement;
 use activity::ResourceTiming;
 use activity::Timed;
 use calendar::Calendar;
-use records::number;
+use desk::Desk;
+use desk::order_with;
+use slot_text::number;
 use timeline::ResourceTimeline;
 ghost use mathlib.Core.Path.{_≡_};
 ghost use Prim.Native.Nat.{_+_, _≤_};
 ghost use lib.ListN.{length};
 ghost use lib.Dec.{eqb};
 ghost use lib.Ieee.{binary64, ofBits};
-ghost use Rattle.board_records.specs.Bodies.{fixedLen};
-ghost use Rattle.board_records.specs.Desk.{orderWith, emptyOrder};
+ghost use Rattle.bodies.specs.Bodies.{fixedLen};
 ghost use Rattle.board_records.specs.Orders.{durationAt, releaseOf, withRequirement, withTiming, requirementAt, timingAt, partReply, flagAbove, orderBy, orderDoes};
 
 // What a part of an order answers: the refusal's number, 0 for none, and the order, new or unchanged.
 pub struct Ordered {
     pub refusal: u8,
     pub activity: Activity,
-}
-
-// An order with no requirement and no timing.
-fn order_with(
-    category: u8,
-    duration: ActivityDuration,
-    resumable: bool,
-    release: Release,
-    calendar: Calendar,
-    origins: u16,
-) -> Activity
-    ensures { λ r. ⌜ r ≡ orderWith category duration resumable release calendar origins ⌝ }
-{
-    let none = ResourceRequirement {
-        kind: 0,
-        candidates: 0,
-        skills: 0,
-        quantity: 0,
-        usage: 0,
-    };
-    let untimed = Timed {
-        timing: ResourceTiming::Nothing,
-    };
-    Activity {
-        category: category,
-        duration: duration,
-        resumable: resumable,
-        release: release,
-        calendar: calendar,
-        origins: origins,
-        requirements: [none; 4],
-        len: 0,
-        timings: [untimed; 16],
-    }
-}
-
-pub fn empty_order() -> Activity
-    ensures { λ r. ⌜ r ≡ emptyOrder ⌝ }
-{
-    let none = ActivityDuration {
-        setup: 0,
-        process: 0,
-        teardown: 0,
-    };
-    let calendar = Calendar::new();
-    order_with(0, none, false, Release::Absent, calendar, 0)
 }
 
 // Setup, process, teardown.

@@ -3,7 +3,7 @@
 // writes; what a record does is in `board_records`, what an ask answers in `board_queries`.
 use board_queries::Answer;
 use board_queries::Turn;
-use board_records::Desk;
+use desk::Desk;
 use streams::Input;
 ghost use Prim.Native.Nat.{_≤_};
 

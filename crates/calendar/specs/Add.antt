@@ -1,9 +1,10 @@
--- The replies of 'Window or block', singly.
+-- 01, 'Window or block': the replies, singly.
 use Prim.Native.Nat.{ℕ, zero, suc, _+_, _^_}
 use mathlib.Core.Bool.{not, cond, _||_}
 use mathlib.Core.List.{replicate}
 use lib.ListN.{set}
 use lib.Dec.{leb, ltb}
+use Rattle.calendar.specs.Limits.{lastInstant, mostSpans}
 use Rattle.calendar.specs.declared.TimeWindows.{TimeWindows}
 use Rattle.calendar.specs.declared.Calendar.{Calendar}
 use Rattle.calendar.specs.declared.Added.{Added}
@@ -13,9 +14,9 @@ use Rattle.calendar.specs.Valid.{valid}
 unfoldable pub addRefusal : Calendar → ℕ → ℕ → ℕ → ℕ
 addRefusal c held s e =
     cond (not (valid c)) 15
-    (cond (ltb (2 ^ 42) s || ltb (2 ^ 42) e) 1
+    (cond (ltb lastInstant s || ltb lastInstant e) 1
     (cond (leb e s) 2
-    (cond (leb 32 held) 4 0)))
+    (cond (leb mostSpans held) 4 0)))
 
 -- no windows and no blocks: always open
 unfoldable pub empty : Calendar

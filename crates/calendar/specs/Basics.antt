@@ -1,6 +1,7 @@
--- Small facts on tests and numbers.
+-- Small facts on tests and numbers, with the library's laws of && and || passed on.
 use mathlib.Core.Path.{_≡_, refl, sym}
 use mathlib.Core.Bool.{Bool, true, false, _&&_, _||_, cond}
+pub use mathlib.Core.Bool.{and-assoc, and-true, and-false, or-true, or-false, or-assoc}
 use mathlib.Core.Logic.{_⊎_, inl, inr}
 use Prim.Native.Nat.{ℕ, suc, _≤_, _<_}
 use native.Mathlib.Omega.{arith}
@@ -13,30 +14,6 @@ and-split false b e = (e, cc)
 
 pub and-join : (a b : Bool) → a ≡ true → b ≡ true → a && b ≡ true
 and-join a b p q = rw (p, q) refl
-
-pub and-assoc : (a b d : Bool) → (a && b) && d ≡ a && (b && d)
-and-assoc true b d = refl
-and-assoc false b d = refl
-
-pub and-true : (a : Bool) → a && true ≡ a
-and-true true = refl
-and-true false = refl
-
-pub and-false : (a : Bool) → a && false ≡ false
-and-false true = refl
-and-false false = refl
-
-pub or-true : (a : Bool) → a || true ≡ true
-or-true true = refl
-or-true false = refl
-
-pub or-false : (a : Bool) → a || false ≡ a
-or-false true = refl
-or-false false = refl
-
-pub or-assoc : (a b d : Bool) → a || (b || d) ≡ (a || b) || d
-or-assoc true b d = refl
-or-assoc false b d = refl
 
 pub not-both : (b : Bool) → b ≡ true → b ≡ false → ⊥
 not-both b p q = let z : _≡_ {A = ℕ} 0 1 = cc in omega arith

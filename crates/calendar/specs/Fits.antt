@@ -1,4 +1,4 @@
--- An unbroken span on a calendar.
+-- 01, 'Calendar': an unbroken span.
 use Prim.Native.Nat.{ℕ}
 use mathlib.Core.Bool.{Bool, true, not, _&&_}
 use mathlib.Core.List.{List, [], _∷_}

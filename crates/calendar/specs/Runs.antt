@@ -1,4 +1,4 @@
--- The calendars of the marked runs M7 and M8, on the definitions.
+-- Edges of working time, on the definitions: a pause, work 0, too little time left, two calendars together.
 use mathlib.Core.Path.{_≡_, refl}
 use mathlib.Core.List.{[], _∷_}
 use Prim.Native.Nat.{_+_}
@@ -15,19 +15,14 @@ touching = record { windows = record { starts = 0 ∷ 10 ∷ []; ends = 10 ∷ 2
 abbrev pub broken : Calendar
 broken = record { windows = record { starts = 0 ∷ []; ends = 100 ∷ []; len = 1 }; blocks = record { starts = 40 ∷ []; ends = 60 ∷ []; len = 1 } }
 
--- M7: 12 ms from 0, unbroken none, resumable 0 to 12. M8: 30 ms from 30, resumable 30 to 80, unbroken 60 to 90.
--- Then: from a pause, work 0, too little time left, and both calendars together.
+-- from a pause, work 0, too little time left, and both calendars together
 pub runs :
-    (leastFrom (λ x. fits touching x (x + 12)) 0 21
-    ∷ jointEnd (touching ∷ []) 0 12
-    ∷ jointEnd (broken ∷ []) 30 30
-    ∷ leastFrom (λ x. fits broken x (x + 30)) 30 71
-    ∷ jointEnd (broken ∷ []) 50 30
+    (jointEnd (broken ∷ []) 50 30
     ∷ jointEnd (broken ∷ []) 60 0
     ∷ jointEnd (broken ∷ []) 30 51
     ∷ jointEnd (touching ∷ broken ∷ []) 5 15
     ∷ jointEnd (touching ∷ broken ∷ []) 5 16
     ∷ [])
-    ≡ nothing ∷ at 12 ∷ at 80 ∷ at 60 ∷ nothing ∷ at 60 ∷ nothing ∷ at 20 ∷ nothing ∷ []
+    ≡ nothing ∷ at 60 ∷ nothing ∷ at 20 ∷ nothing ∷ []
 unfolding leastFrom spansFrom any holds meets contains openFor fits working joint endFrom workEnd latest lastChange
 runs = refl

@@ -32,7 +32,7 @@ any-last P l i zero =
     rw e (or-false (P (spanAt l i)))
 any-last P l i (suc n) =
     let e : i + suc n ≡ suc i + n = omega arith in
-    rw (e, any-last P l (suc i) n) (or-assoc (P (spanAt l i)) (any P (spansFrom l (suc i) n)) (P (spanAt l (suc i + n))))
+    rw (e, any-last P l (suc i) n) (sym (or-assoc (P (spanAt l i)) (any P (spansFrom l (suc i) n)) (P (spanAt l (suc i + n)))))
 
 -- which span it is, and that none is
 pub any-some : (P : Span → Bool) (l : TimeWindows) (n : ℕ) → any P (spansFrom l 0 n) ≡ true → (k : ℕ) × (k < n) × (P (spanAt l k) ≡ true)

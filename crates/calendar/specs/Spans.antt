@@ -1,4 +1,4 @@
--- The windows and the blocks of a calendar as lists of spans, and what is said of one span.
+-- 01, 'Calendar': the windows and the blocks of a calendar as lists of spans, and what is said of one span.
 use Prim.Native.Nat.{ℕ, zero, suc}
 use mathlib.Core.Bool.{Bool, false, _&&_, _||_}
 use mathlib.Core.List.{List, [], _∷_}

@@ -1,4 +1,4 @@
--- Working time, joint working time, and when resumable work ends.
+-- 01, 'Calendar': working time, joint working time, and when resumable work ends.
 use Prim.Native.Nat.{ℕ, zero, suc, _+_, _-_, max}
 use mathlib.Core.Bool.{Bool, true, false, not, _&&_}
 use mathlib.Core.List.{List, [], _∷_}

@@ -1,6 +1,7 @@
 // A calendar: up to 32 windows and 32 blocks (models/calendar.rs; 01, 'Calendar' and the replies of 'Window or block').
-pub mod core;
+pub mod limits;
 
+use limits::LAST_INSTANT;
 ghost use mathlib.Core.Path.{_≡_};
 ghost use mathlib.Core.Bool.{true};
 ghost use Prim.Native.Nat.{_<_};
@@ -34,7 +35,7 @@ fn cell_right(i: usize, n: usize, start: u64, end: u64) -> bool
         if end <= start {
             return false;
         }
-        return end <= 4398046511104;
+        return end <= LAST_INSTANT;
     }
     if start != 0 {
         return false;
@@ -76,10 +77,10 @@ fn refusal_of(c: Calendar, held: usize, start: u64, end: u64) -> u8
     if !is_valid(c) {
         return 15;
     }
-    if start > 4398046511104 {
+    if start > LAST_INSTANT {
         return 1;
     }
-    if end > 4398046511104 {
+    if end > LAST_INSTANT {
         return 1;
     }
     if end <= start {

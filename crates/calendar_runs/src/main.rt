@@ -1,6 +1,8 @@
 // Asks calendars and joint working time what a stream of records on standard input says, and writes the replies.
 // Kinds 2 and 3 are those of `slot`, 32 to 38 its own (tests/beside/README.md): it is run beside the Rust.
 use calendar::Calendar;
+use calendar::limits::LAST_ASKED;
+use calendar::limits::LONGEST_SPAN;
 use joint::JointTime;
 use joint::WorkEnd;
 ghost use mathlib.Core.Path.{_≡_};
@@ -84,7 +86,7 @@ fn ask_fits(c: Calendar, start: u64, end: u64) {
         refused(15);
         return;
     }
-    if calendar::core::interval_fits(c, start, end) {
+    if fits::interval_fits(c, start, end) {
         io::write_all(1, b"fits\n");
     } else {
         io::write_all(1, b"no\n");
@@ -97,7 +99,7 @@ fn ask_working(c: Calendar, time: u64) {
         refused(15);
         return;
     }
-    if calendar::core::is_working_time(c, time) {
+    if fits::is_working_time(c, time) {
         io::write_all(1, b"working\n");
     } else {
         io::write_all(1, b"pause\n");
@@ -121,7 +123,7 @@ fn join(mut s: Runs) -> Runs {
 
 // Kind 35: the list and the instant of the layout that is asked next.
 fn lay(mut s: Runs, from: u64) -> Runs {
-    if from > 8796093022208 {
+    if from > LAST_ASKED {
         refused(1);
         return s;
     }
@@ -164,11 +166,11 @@ fn ask_end(s: Runs, start: u64, work: u64) {
         refused(1);
         return;
     }
-    if start > 8796093022208 {
+    if start > LAST_ASKED {
         refused(1);
         return;
     }
-    if work > 9007199254740992 {
+    if work > LONGEST_SPAN {
         refused(1);
         return;
     }
@@ -242,15 +244,15 @@ fn ask_measure(s: Runs, rounds: u64, from: u64, step: u64, work: u64) {
         refused(1);
         return;
     }
-    if from > 8796093022208 {
+    if from > LAST_ASKED {
         refused(1);
         return;
     }
-    if step > 8796093022208 {
+    if step > LAST_ASKED {
         refused(1);
         return;
     }
-    if work > 9007199254740992 {
+    if work > LONGEST_SPAN {
         refused(1);
         return;
     }

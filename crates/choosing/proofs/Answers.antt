@@ -20,7 +20,8 @@ use Rattle.scheduler.specs.Choosing as scheduler
 use Rattle.scheduler.specs.Lists.{Each, each-end, append-nil}
 use Rattle.scheduler.specs.Ruled.{all-there}
 use Rattle.alone.specs.declared.Plan.{Plan}
-use Rattle.alone.specs.Plans.{startWith, Planned}
+use Rattle.alone.specs.Plans.{Planned}
+use Rattle.scheduler.specs.Alone.{startWith}
 use Rattle.choosing.specs.declared.rank.Candidate.{Candidate}
 use Rattle.choosing.specs.declared.rank.Ranked.{Ranked}
 use Rattle.choosing.specs.Named.{candidateOf, rankedOf, putIn}

@@ -4,17 +4,18 @@ use activity::Activity;
 use alone::Plan;
 use answering::Table;
 use board::Board;
+use calendar::limits::NEVER;
 use scheduler::Hold;
 
 mod rank;
 
-pub use rank::Candidate;
-pub use rank::Ranked;
+use rank::Candidate;
+use rank::Ranked;
 ghost use mathlib.Core.Path.{_≡_};
 ghost use mathlib.Core.Bool.{true, false};
 ghost use mathlib.Core.List.{map, _++_};
 ghost use Prim.Native.Nat.{_+_, _^_, _≤_, _<_};
-ghost use lib.ListN.{take};
+ghost use lib.ListN.{take, replicate};
 ghost use Rattle.activity.specs.declared.Activity as ordered;
 ghost use Rattle.activity.specs.Check.{requirementsOf, activityRefusal};
 ghost use Rattle.board.specs.Valid.{valid};
@@ -51,7 +52,7 @@ fn candidates(b: Board, p: Plan, table: Table, j: usize) -> Ranked
     let mut i: usize = 0;
     while i < len {
         let start = table.starts[16 * j + i];
-        if start < 9223372036854775808 {
+        if start < NEVER {
             k = rank::insert(
                 k,
                 Candidate {
@@ -116,7 +117,7 @@ fn greatest_start(held: [Hold; 8], count: usize) -> u64
     let mut i: usize = 0;
     while i < count {
         let h = held[i];
-        most = asks::core::later(most, h.start);
+        most = columns::later(most, h.start);
         i += 1;
     }
     most
@@ -143,6 +144,17 @@ fn round(b: Board, a: Activity, p: Plan, table: Table) -> Holding
     h
 }
 
+// Nothing is known yet: no instant lies between 1 and 0.
+fn nothing_asked() -> Table
+    ensures { λ r. ⌜ r ≡ record { instant = 0; asked = replicate 64 1; starts = replicate 64 0 } ⌝ }
+{
+    Table {
+        instant: 0,
+        asked: [1; 64],
+        starts: [0; 64],
+    }
+}
+
 fn no_choice() -> Choice
     ensures { λ r. ⌜ (r .chosen ≡ false) × (r .instant ≡ 0) × (r .count ≡ 0) ⌝ }
 {
@@ -167,7 +179,7 @@ pub fn choose(b: Board, a: Activity, ready: u64, places: [usize; 16]) -> Choice
     ensures { λ r. ⌜ r .instant ≤ 2 ^ 43 ⌝ }
 {
     let p = alone::plan_of(b, a, ready);
-    let mut table = answering::nothing_asked();
+    let mut table = nothing_asked();
     let mut t = ready;
     let mut i: u64 = 0;
     while i < 10000 {

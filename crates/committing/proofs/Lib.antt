@@ -1,4 +1,2 @@
 -- The proofs of the functions.
-mod Rows
 mod Ahead
-mod Refusing

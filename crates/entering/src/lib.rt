@@ -1,10 +1,10 @@
-// Entries of a board: a resource, a transport, a diary looked up and put back (models/resource.rs, models/constraint.rs; 01, 'Board
-// entries'). Those of a matrix stand in `matrices` and are passed on.
+// Entries of a board: a resource, a transport (models/resource.rs, models/constraint.rs; 01, 'Board entries'). Those of a matrix stand in
+// `matrices` and are passed on; diaries are looked up and put back by `board_diaries`.
 use board::Board;
 use board::Entered;
 use board::LastCategory;
-use board::Looked;
 use board::Resource;
+use calendar::limits::LONGEST_DURATION;
 pub use matrices::set_initial;
 pub use matrices::set_matrix;
 pub use matrices::set_transition;
@@ -15,7 +15,7 @@ ghost use Prim.Native.Nat.{_≤_};
 ghost use lib.ListN.{length, getD};
 ghost use lib.Dec.{leb, ltb};
 ghost use Rattle.board.specs.Valid.{every};
-ghost use Rattle.board.specs.Enter.{companionCells, addRefusal, transportRefusal, addResourceReply, setTransportReply, timelineOfReply, putTimelineReply};
+ghost use Rattle.board.specs.Enter.{companionCells, addRefusal, transportRefusal, addResourceReply, setTransportReply};
 
 // A number is on the board, by the places of all numbers.
 fn is_on(places: &[usize; 16], number: u8) -> bool
@@ -60,7 +60,7 @@ fn companion_cells(companions: &[u8]) -> [u8; 4]
 fn add_refusal(b: Board, number: u8, companions: &[u8], timeline: ResourceTimeline) -> u8
     ensures { λ r. ⌜ r ≡ addRefusal b number (now (companions .entry)) timeline ⌝ }
 {
-    let p = board::core::places_of(b);
+    let p = board_rules::places_of(b);
     if !p.right {
         return 15;
     }
@@ -87,7 +87,7 @@ fn add_refusal(b: Board, number: u8, companions: &[u8], timeline: ResourceTimeli
 fn transport_refusal(b: Board, from: u8, to: u8, ms: u64) -> u8
     ensures { λ r. ⌜ r ≡ transportRefusal b from to ms ⌝ }
 {
-    let p = board::core::places_of(b);
+    let p = board_rules::places_of(b);
     if !p.right {
         return 15;
     }
@@ -98,7 +98,7 @@ fn transport_refusal(b: Board, from: u8, to: u8, ms: u64) -> u8
     if !is_on(&places, to) {
         return 5;
     }
-    if ms > 68719476736 {
+    if ms > LONGEST_DURATION {
         return 1;
     }
     0
@@ -161,54 +161,5 @@ pub fn set_transport(board: Board, from: u8, to: u8, ms: u64) -> Entered
     Entered {
         refusal: 0,
         board: b,
-    }
-}
-
-// The diary of a resource, or refuses: 15, 5 not on the board.
-pub fn timeline_of(board: Board, number: u8) -> Looked
-    ensures { λ r. ⌜ r ≡ timelineOfReply board number ⌝ }
-{
-    let e = matrices::entry_for(board, number);
-    if e.refusal != 0 {
-        let none = board::blank_timeline();
-        return Looked {
-            refusal: e.refusal,
-            timeline: none,
-        };
-    }
-    let i = e.place;
-    let r = board.resources[i];
-    let t = r.timeline;
-    Looked {
-        refusal: 0,
-        timeline: t,
-    }
-}
-
-// Puts a diary back to its resource, or refuses: 15 a board or a diary that breaks the rules, 5 not on the board.
-pub fn put_timeline(board: Board, number: u8, timeline: ResourceTimeline) -> Entered
-    ensures { λ r. ⌜ r ≡ putTimelineReply board number timeline ⌝ }
-{
-    if !timeline::is_valid(timeline) {
-        return Entered {
-            refusal: 15,
-            board: board,
-        };
-    }
-    let e = matrices::entry_for(board, number);
-    if e.refusal != 0 {
-        return Entered {
-            refusal: e.refusal,
-            board: board,
-        };
-    }
-    let place = e.place;
-    let mut after = board;
-    let mut r = after.resources[place];
-    r.timeline = timeline;
-    after.resources[place] = r;
-    Entered {
-        refusal: 0,
-        board: after,
     }
 }

@@ -1,4 +1,3 @@
 -- The proofs of the functions.
 mod Joining
 mod Parting
-mod Closing

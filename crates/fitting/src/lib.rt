@@ -1,7 +1,8 @@
 // Fitting: the least start that suits all entries and the order's own calendar (the second half of `place_activity`, `place_resumable`
 // and `own_timeline` in scheduler/simple.rs; 01, 'Fitting').
-use asks::core::Start;
 use calendar::Calendar;
+use calendar::limits::NEVER;
+use earliest::Start;
 use joint::WorkEnd;
 use timeline::ResourceTimeline;
 ghost use mathlib.Core.Path.{_≡_};
@@ -12,7 +13,7 @@ ghost use lib.ListN.{length, take};
 ghost use Rattle.calendar.specs.Valid as calendar;
 ghost use Rattle.calendar.specs.Work.{joint, jointEnd};
 ghost use Rattle.joint.specs.Layout.{Layout, Ruled, foundOf};
-ghost use Rattle.asks.specs.Steps.{startOf};
+ghost use Rattle.earliest.specs.Steps.{startOf};
 ghost use lib.Dec.{leb};
 ghost use Rattle.scheduler.specs.Alone.{earliestOf};
 ghost use Rattle.scheduler.specs.Fitting.{calendarOf, allFree};
@@ -94,7 +95,7 @@ fn all_free(g: Closing, s: u64, e: u64) -> bool
     let mut i: usize = 0;
     while i < n {
         let t = g.timelines[i];
-        if !asks::core::is_free(t, s, e, g.units[i]) {
+        if !free::is_free(t, s, e, g.units[i]) {
             return false;
         }
         i += 1;
@@ -107,12 +108,12 @@ fn next_start(g: Closing, x: u64) -> u64
     requires { ⌜ (g .len ≤ 25) × Wanted (g .timelines) (g .units) (g .len) × (x < 2 ^ 63) ⌝ }
     ensures { λ r. ⌜ (x < r) × (r ≤ 2 ^ 63) × ((y : ℕ) → x ≤ y → suc y < r → Calm (suc y) (sharesTo (g .timelines) (g .units) (g .len))) ⌝ }
 {
-    let mut next: u64 = 9223372036854775808;
+    let mut next: u64 = NEVER;
     let n = g.len;
     let mut i: usize = 0;
     while i < n {
         let t = g.timelines[i];
-        let c = asks::core::next_candidate(t, x);
+        let c = candidates::next_candidate(t, x);
         if c < next {
             next = c;
         }
@@ -149,7 +150,7 @@ pub fn fit_resumable(g: Closing, work: u64, from: u64) -> Fit
     let edges = j.edges;
     let len = j.len;
     let mut at = from;
-    while at < 9223372036854775808 {
+    while at < NEVER {
         let end = end_if_free(g, &edges, len, from, at, work);
         if let WorkEnd::At(e) = end {
             return Fit::At(at, e);

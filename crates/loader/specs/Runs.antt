@@ -1,4 +1,4 @@
--- Runs on the definitions: empty, taken whole, refused at a first bad record in the middle, at a 33rd, and on a broken calendar.
+-- Runs on the definitions: empty, taken whole, refused at a first bad record in the middle, at a 33rd, and on a calendar that breaks the rules.
 use mathlib.Core.Path.{_≡_, refl}
 use mathlib.Core.Bool.{true, false}
 use mathlib.Core.List.{[], _∷_, _++_}
@@ -9,7 +9,8 @@ use Rattle.calendar.specs.Valid.{cellRight, cellsRight, spansRight, valid}
 use Rattle.calendar.specs.Add.{addRefusal, empty, withSpan, added, addWindow, addBlock}
 use Rattle.timeline.specs.Bookings.{bookingsTo, total}
 use Rattle.timeline.specs.Valid as timelines
-use Rattle.timeline.specs.Book.{latestEnds, diary, withCalendar, calendarReply}
+use Rattle.timeline.specs.Diary.{latestEnds, diary}
+use Rattle.timeline.specs.Book.{withCalendar, calendarReply}
 use Rattle.loader.specs.declared.TimeWindow.{TimeWindow}
 use Rattle.loader.specs.Run.{reply, addOne, judged, addRun, addTimelineRun}
 
@@ -41,14 +42,14 @@ full = record {
   blocks = record { starts = replicate 32 0; ends = replicate 32 0; len = 0 };
 }
 
-abbrev pub broken : Calendar
-broken = record {
+abbrev pub spoilt : Calendar
+spoilt = record {
   windows = record { starts = 7 ∷ replicate 31 0; ends = replicate 32 0; len = 0 };
   blocks = record { starts = replicate 32 0; ends = replicate 32 0; len = 0 };
 }
 
 -- On a calendar: empty · two windows · two blocks · the second above 2^42 and the third reversed: 1 · the second reversed and the third
--- above 2^42: 2 · the 32nd taken · a 33rd: 4 · a reversed 33rd: 2 · a block beside 31 windows · broken, with a run and without · 33 blocks: 4.
+-- above 2^42: 2 · the 32nd taken · a 33rd: 4 · a reversed 33rd: 2 · a block beside 31 windows · spoilt, with a run and without · 33 blocks: 4.
 pub runs :
     (addRun empty false []
     ∷ addRun empty false (span 0 10 ∷ span 10 20 ∷ [])
@@ -59,22 +60,22 @@ pub runs :
     ∷ addRun crowded false (span 5 9 ∷ span 0 10 ∷ span 20 20 ∷ [])
     ∷ addRun crowded false (span 5 9 ∷ span 20 20 ∷ span 0 10 ∷ [])
     ∷ addRun crowded true (span 5 9 ∷ [])
-    ∷ addRun broken false (span 0 10 ∷ [])
-    ∷ addRun broken true []
+    ∷ addRun spoilt false (span 0 10 ∷ [])
+    ∷ addRun spoilt true []
     ∷ addRun empty true (replicate 33 (span 0 1))
     ∷ [])
     ≡ reply 0 empty ∷ reply 0 touching ∷ reply 0 blocked ∷ reply 1 empty ∷ reply 2 empty ∷ reply 0 full ∷ reply 4 crowded ∷ reply 2 crowded
     ∷ reply 0 (record { windows = crowded .windows; blocks = record { starts = 5 ∷ replicate 31 0; ends = 9 ∷ replicate 31 0; len = 1 } })
-    ∷ reply 15 broken ∷ reply 15 broken ∷ reply 4 empty ∷ []
+    ∷ reply 15 spoilt ∷ reply 15 spoilt ∷ reply 4 empty ∷ []
 unfolding cellRight cellsRight spansRight valid addRefusal empty withSpan added addWindow addBlock addOne judged addRun
 runs = refl
 
--- On a diary without bookings: two windows · the second reversed · a broken calendar
+-- On a diary without bookings: two windows · the second reversed · a spoilt calendar
 pub timeline-runs :
     (addTimelineRun (diary 1 empty []) false (span 0 10 ∷ span 10 20 ∷ [])
     ∷ addTimelineRun (diary 1 empty []) true (span 0 10 ∷ span 20 20 ∷ [])
-    ∷ addTimelineRun (diary 1 broken []) false (span 0 10 ∷ [])
+    ∷ addTimelineRun (diary 1 spoilt []) false (span 0 10 ∷ [])
     ∷ [])
-    ≡ record { refusal = 0; timeline = diary 1 touching [] } ∷ record { refusal = 2; timeline = diary 1 empty [] } ∷ record { refusal = 15; timeline = diary 1 broken [] } ∷ []
+    ≡ record { refusal = 0; timeline = diary 1 touching [] } ∷ record { refusal = 2; timeline = diary 1 empty [] } ∷ record { refusal = 15; timeline = diary 1 spoilt [] } ∷ []
 unfolding cellRight cellsRight spansRight valid addRefusal empty withSpan added addWindow addBlock addOne judged addRun bookingsTo total timelines.cellEmpty timelines.filledFrom timelines.emptyFrom timelines.valid latestEnds diary withCalendar calendarReply addTimelineRun
 timeline-runs = refl

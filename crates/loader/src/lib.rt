@@ -88,19 +88,7 @@ fn calendar_of(t: ResourceTimeline) -> Calendar
 fn timeline_reply(t: ResourceTimeline, added: Added) -> Booked
     ensures { λ r. ⌜ r ≡ calendarReply t added ⌝ }
 {
-    if !timeline::is_valid(t) {
-        return Booked {
-            refusal: 15,
-            timeline: t,
-        };
-    }
-    let calendar = added.calendar;
-    let mut more = t;
-    more.calendar = calendar;
-    Booked {
-        refusal: added.refusal,
-        timeline: more,
-    }
+    windows::calendar_reply(t, added)
 }
 
 // Adds the records of a run to the calendar of a diary: all of them, or none and the number of the first bad one.

@@ -1,10 +1,11 @@
 -- The marked runs M1 to M12 on the definitions: one theorem over one list.
-use mathlib.Core.Path.{_≡_, refl}
+use mathlib.Core.Path.{_≡_, refl, ap}
 use mathlib.Core.Bool.{true, false}
 use mathlib.Core.List.{List, [], _∷_, _++_, map}
 use Prim.Native.Nat.{ℕ, _-_}
-use lib.ListN.{replicate, length}
+use lib.ListN.{replicate, length, getD}
 use lib.Ieee.{Float, le, eq, mul, div, ofInt}
+use Rattle.calendar.specs.declared.Calendar.{Calendar}
 use Rattle.calendar.specs.Search.{leastFrom}
 use Rattle.calendar.specs.Spans.{spansFrom, any, holds, meets, contains}
 use Rattle.calendar.specs.Valid as calendar
@@ -16,16 +17,17 @@ use Rattle.timeline.specs.Bookings.{bookingsTo, total, latestEnd}
 use Rattle.timeline.specs.Valid as timeline
 use Rattle.timeline.specs.Free.{overlaps, onAt, load, roomFrom, free}
 use Rattle.timeline.specs.Earliest.{fitsAt, freeTo, startsAt, lastEvent, earliestFit, earliestResumable}
-use Rattle.timeline.specs.Book.{insertBooking, latestEnds, diary, bookRefusal, taken, bookReply}
+use Rattle.timeline.specs.Diary.{insertBooking, latestEnds, diary}
+use Rattle.timeline.specs.Book.{bookRefusal, taken, bookReply}
 use Rattle.timeline.specs.Ask as asking
-use Rattle.timeline.specs.Runs.{touching, broken}
 use Rattle.activity.specs.declared.ResourceTiming.the-variants.{Nothing}
 use Rattle.activity.specs.declared.Timed.{Timed}
 use Rattle.activity.specs.declared.Release.the-variants.{Absent}
 use Rattle.activity.specs.declared.Activity.{Activity}
 use Rattle.speeds.specs.Speeds.{halfUp, roundAway, processAt, isSpeed}
 use Rattle.activity.specs.Durations.{greatest, product, durationOn}
-use Rattle.activity.specs.Serving.{bit, covers, candidate, serves}
+use Rattle.calendar.specs.Sets.{bit}
+use Rattle.activity.specs.Serving.{covers, candidate, serves}
 use Rattle.activity.specs.Ready.{readyOf}
 use Rattle.activity.specs.Check.{every, releaseRight, short, quantity, quantitiesRight, usageRight, timesRight, activityRefusal}
 use Rattle.activity.specs.Runs.{two, threeHalves, half, lasting, at}
@@ -35,11 +37,12 @@ use Rattle.board.specs.Setups.{entryOr, matrixSetup, setupMs}
 use Rattle.board.specs.Transport as transport
 use Rattle.board.specs.Valid as board
 use Rattle.board.specs.Enter.{blankResource, newResource}
-use Rattle.scheduler.specs.Alone.{canStart, allStart, lastOf, earliestOf, resourceIn, withCompanions, durationAlone, spanOf, arrival, startAlone}
+use Rattle.scheduler.specs.Alone.{canStart, allStart, lastOf, earliestOf, resourceIn, withCompanions, durationAlone, spanOf, arrival, startWith, startAlone}
 use Rattle.scheduler.specs.Choosing.{comesFirst, insert, sortInto, answer, candidates, holdFirst, behind, round, greatestStart, settle, rounds, choosing}
 use Rattle.scheduler.specs.declared.Entry.{Entry}
 use Rattle.scheduler.specs.Fitting.{durationTogether, greatestSetup, among, joinEach, allCompanions, companionEntries, entriesOf, spanTogether, fitsAll, allFree, freeToEnd, startsAll, suits, lastAll, fitting, endOf}
-use Rattle.scheduler.specs.Placing.{Reply, placed, none, ended, started, fitted, fitChosen, timeOnly, byRequirements, placing, refusedOr, placeRefusal, placeReply}
+use Rattle.scheduler.specs.Placing.{Reply, placed, none, ended, started, fitted, fitChosen, timeOnly, byRequirements, placing, placeRefusal, placeReply}
+use Rattle.calendar.specs.Refusals.{refusedOr}
 
 -- a marked run: an ask of a diary, a process time worked out at a speed, an order placed on a board
 pub data Run : Type 0 where
@@ -58,6 +61,19 @@ run (fit t from span u) = diaryReply (asking.fitReply t from span u)
 run (resumable t from work u) = diaryReply (asking.resumableReply t from work u)
 run (process base speed) = ms (durationOn (lasting 0 base 0) (at speed ∷ []) (0 ∷ []) .process)
 run (place b a ready) = placement (placeReply b a ready 24)
+
+-- windows 0-10, 10-20; window 0-100 with block 40-60
+abbrev pub touching : Calendar
+touching = record {
+  windows = record { starts = 0 ∷ 10 ∷ replicate 30 0; ends = 10 ∷ 20 ∷ replicate 30 0; len = 2 };
+  blocks = record { starts = replicate 32 0; ends = replicate 32 0; len = 0 };
+}
+
+abbrev pub broken : Calendar
+broken = record {
+  windows = record { starts = 0 ∷ replicate 31 0; ends = 100 ∷ replicate 31 0; len = 1 };
+  blocks = record { starts = 40 ∷ replicate 31 0; ends = 60 ∷ replicate 31 0; len = 1 };
+}
 
 -- a diary of capacity 1 with one booking
 abbrev pub booked : ResourceTimeline → ℕ → ℕ → ResourceTimeline
@@ -139,15 +155,20 @@ replies =
     ∷ []
 
 pub runs : map run marked ≡ replies
-unfolding run eq le mul div ofInt leastFrom spansFrom any holds meets contains calendar.cellRight calendar.cellsRight calendar.spansRight calendar.valid openFor fits working joint endFrom workEnd latest lastChange empty bookingsTo total latestEnd timeline.before timeline.cellRight timeline.cellEmpty timeline.filledFrom timeline.emptyFrom timeline.valid overlaps onAt load roomFrom free fitsAt freeTo startsAt lastEvent earliestFit earliestResumable insertBooking latestEnds diary bookRefusal taken bookReply asking.unbroken asking.ended asking.resumed asking.askRefusal asking.refusedOr asking.asked halfUp roundAway processAt isSpeed greatest product durationOn bit covers candidate serves readyOf every releaseRight short quantity quantitiesRight usageRight timesRight activityRefusal resources.lookupTo resources.isAt entryOr matrixSetup setupMs transport.bit transport.greatest board.everyFrom board.durationRight board.entryRight board.isZero board.matrixRight board.companionsRight board.lastRight board.resourceRight board.calendarBlank board.diaryBlank board.lastBlank board.resourceBlank board.cellRight board.transportRight board.valid canStart allStart lastOf earliestOf resourceIn withCompanions durationAlone spanOf arrival startAlone comesFirst insert sortInto answer candidates holdFirst behind round greatestStart settle rounds choosing durationTogether greatestSetup among joinEach allCompanions companionEntries entriesOf spanTogether fitsAll allFree freeToEnd startsAll suits lastAll fitting endOf ended started fitted fitChosen timeOnly byRequirements placing refusedOr placeRefusal placeReply
+unfolding run eq le mul div ofInt leastFrom spansFrom any holds meets contains calendar.cellRight calendar.cellsRight calendar.spansRight calendar.valid openFor fits working joint endFrom workEnd latest lastChange empty bookingsTo total latestEnd timeline.before timeline.cellRight timeline.cellEmpty timeline.filledFrom timeline.emptyFrom timeline.valid overlaps onAt load roomFrom free fitsAt freeTo startsAt lastEvent earliestFit earliestResumable insertBooking latestEnds diary bookRefusal taken bookReply asking.unbroken asking.ended asking.resumed asking.askRefusal asking.asked halfUp roundAway processAt isSpeed greatest product durationOn bit covers candidate serves readyOf every releaseRight short quantity quantitiesRight usageRight timesRight activityRefusal resources.lookupTo resources.isAt entryOr matrixSetup setupMs transport.greatest board.everyFrom board.durationRight board.entryRight board.isZero board.matrixRight board.companionsRight board.lastRight board.resourceRight board.calendarBlank board.diaryBlank board.lastBlank board.resourceBlank board.cellRight board.transportRight board.valid canStart allStart lastOf earliestOf resourceIn withCompanions durationAlone spanOf arrival startAlone startWith comesFirst insert sortInto answer candidates holdFirst behind round greatestStart settle rounds choosing durationTogether greatestSetup among joinEach allCompanions companionEntries entriesOf spanTogether fitsAll allFree freeToEnd startsAll suits lastAll fitting endOf ended started fitted fitChosen timeOnly byRequirements placing refusedOr placeRefusal placeReply
 runs = refl
+
+placementIn : Result → Reply
+placementIn (diaryReply r) = none
+placementIn (ms n) = none
+placementIn (placement r) = r
 
 -- M11's first placing, by itself
 pub first-placed : placeReply (boardOf (booked free1 0 100) free1) (order 30 1 []) 0 24 ≡ placed 0 0 30 (entry 1 ∷ [])
-unfolding eq le mul div ofInt leastFrom spansFrom any holds meets contains calendar.cellRight calendar.cellsRight calendar.spansRight calendar.valid openFor fits working joint endFrom workEnd latest lastChange empty bookingsTo total latestEnd timeline.before timeline.cellRight timeline.cellEmpty timeline.filledFrom timeline.emptyFrom timeline.valid overlaps onAt load roomFrom free fitsAt freeTo startsAt lastEvent earliestFit earliestResumable insertBooking latestEnds diary bookRefusal taken bookReply asking.unbroken asking.ended asking.resumed asking.askRefusal asking.refusedOr asking.asked halfUp roundAway processAt isSpeed greatest product durationOn bit covers candidate serves readyOf every releaseRight short quantity quantitiesRight usageRight timesRight activityRefusal resources.lookupTo resources.isAt entryOr matrixSetup setupMs transport.bit transport.greatest board.everyFrom board.durationRight board.entryRight board.isZero board.matrixRight board.companionsRight board.lastRight board.resourceRight board.calendarBlank board.diaryBlank board.lastBlank board.resourceBlank board.cellRight board.transportRight board.valid canStart allStart lastOf earliestOf resourceIn withCompanions durationAlone spanOf arrival startAlone comesFirst insert sortInto answer candidates holdFirst behind round greatestStart settle rounds choosing durationTogether greatestSetup among joinEach allCompanions companionEntries entriesOf spanTogether fitsAll allFree freeToEnd startsAll suits lastAll fitting endOf ended started fitted fitChosen timeOnly byRequirements placing refusedOr placeRefusal placeReply
-first-placed = refl
+unfolding run placementIn
+first-placed = ap (λ (l : List Result). placementIn (getD l 15 (ms 0))) runs
 
 -- a companion joins with setup 0 and unit 1, and its speed does not count
 pub companion-joins : placeReply (record { resources = newResource 0 0 0 (1 ∷ []) free1 ∷ newResource 1 9 0 [] free1 ∷ replicate 14 blankResource; len = 2; transport = replicate 256 0 }) (order 100 1 (record { timing = Nothing } ∷ at two ∷ [])) 0 24 ≡ placed 0 0 100 (entry 0 ∷ record { number = 1; setup = 0; units = 1; companion = true } ∷ [])
-unfolding eq le mul div ofInt leastFrom spansFrom any holds meets contains calendar.cellRight calendar.cellsRight calendar.spansRight calendar.valid openFor fits working joint endFrom workEnd latest lastChange empty bookingsTo total latestEnd timeline.before timeline.cellRight timeline.cellEmpty timeline.filledFrom timeline.emptyFrom timeline.valid overlaps onAt load roomFrom free fitsAt freeTo startsAt lastEvent earliestFit earliestResumable insertBooking latestEnds diary bookRefusal taken bookReply asking.unbroken asking.ended asking.resumed asking.askRefusal asking.refusedOr asking.asked halfUp roundAway processAt isSpeed greatest product durationOn bit covers candidate serves readyOf every releaseRight short quantity quantitiesRight usageRight timesRight activityRefusal resources.lookupTo resources.isAt entryOr matrixSetup setupMs transport.bit transport.greatest board.everyFrom board.durationRight board.entryRight board.isZero board.matrixRight board.companionsRight board.lastRight board.resourceRight board.calendarBlank board.diaryBlank board.lastBlank board.resourceBlank board.cellRight board.transportRight board.valid canStart allStart lastOf earliestOf resourceIn withCompanions durationAlone spanOf arrival startAlone comesFirst insert sortInto answer candidates holdFirst behind round greatestStart settle rounds choosing durationTogether greatestSetup among joinEach allCompanions companionEntries entriesOf spanTogether fitsAll allFree freeToEnd startsAll suits lastAll fitting endOf ended started fitted fitChosen timeOnly byRequirements placing refusedOr placeRefusal placeReply
+unfolding eq le mul div ofInt leastFrom spansFrom any holds meets contains calendar.cellRight calendar.cellsRight calendar.spansRight calendar.valid openFor fits working joint endFrom workEnd latest lastChange empty bookingsTo total latestEnd timeline.before timeline.cellRight timeline.cellEmpty timeline.filledFrom timeline.emptyFrom timeline.valid overlaps onAt load roomFrom free fitsAt freeTo startsAt lastEvent earliestFit earliestResumable insertBooking latestEnds diary bookRefusal taken bookReply asking.unbroken asking.ended asking.resumed asking.askRefusal asking.asked halfUp roundAway processAt isSpeed greatest product durationOn bit covers candidate serves readyOf every releaseRight short quantity quantitiesRight usageRight timesRight activityRefusal resources.lookupTo resources.isAt entryOr matrixSetup setupMs transport.greatest board.everyFrom board.durationRight board.entryRight board.isZero board.matrixRight board.companionsRight board.lastRight board.resourceRight board.calendarBlank board.diaryBlank board.lastBlank board.resourceBlank board.cellRight board.transportRight board.valid canStart allStart lastOf earliestOf resourceIn withCompanions durationAlone spanOf arrival startAlone startWith comesFirst insert sortInto answer candidates holdFirst behind round greatestStart settle rounds choosing durationTogether greatestSetup among joinEach allCompanions companionEntries entriesOf spanTogether fitsAll allFree freeToEnd startsAll suits lastAll fitting endOf ended started fitted fitChosen timeOnly byRequirements placing refusedOr placeRefusal placeReply
 companion-joins = refl

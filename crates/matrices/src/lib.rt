@@ -17,7 +17,7 @@ pub struct Entry {
 pub fn entry_for(b: Board, number: u8) -> Entry
     ensures { λ r. ⌜ r ≡ entryFor b number ⌝ }
 {
-    let p = board::core::places_of(b);
+    let p = board_rules::places_of(b);
     if !p.right {
         return Entry {
             refusal: 15,

@@ -1,6 +1,6 @@
 // Places and commits orders on a board, by a stream of records on standard input, and writes the answers (docs/RECORDS.md, kinds 1 to 4
 // and 16 to 26). It only reads and writes; what a record does is in `offer_records`, what it prints in `offer_lines`.
-use board_records::Desk;
+use desk::Desk;
 use offer_records::Answer;
 use offer_records::Turn;
 use streams::Input;

@@ -4,7 +4,7 @@ use mathlib.Core.List.{List, [], _∷_, _++_}
 use lib.ListN.{getD, take}
 use Rattle.streams.specs.Text.{decimal}
 use Rattle.timeline.specs.Ask.{none, refused}
-use Rattle.records.specs.Lines as slot
+use Rattle.slot_text.specs.Lines as slot
 use Rattle.offer_records.specs.declared.Answer.{Answer}
 use Rattle.offer_records.specs.declared.Answer.the-variants.{Nothing, Placed, Chosen, None, Committed, Refused}
 use Rattle.offer_records.specs.Offers.{shown}

@@ -1,7 +1,7 @@
 // The text that an answer of `offer` prints (docs/RECORDS.md): its line and, behind a placement's, a line for each entry of the slate
 // that it speaks of.
 use offer_records::Answer;
-use records::Line;
+use slot_text::Line;
 use streams::put;
 use streams::put_value;
 ghost use mathlib.Core.Path.{_≡_};
@@ -82,9 +82,9 @@ fn put_line(out: &mut [u8], at: usize, answer: Answer) -> usize
             count,
         ),
         Answer::Chosen(choosing) => put_chosen(out, at, choosing),
-        Answer::None => records::text(Line::None, out, at),
+        Answer::None => slot_text::text(Line::None, out, at),
         Answer::Committed => put(out, at, b"committed\n"),
-        Answer::Refused(n) => records::text(Line::Refused(n), out, at),
+        Answer::Refused(n) => slot_text::text(Line::Refused(n), out, at),
     }
 }
 

@@ -6,8 +6,8 @@ use Prim.Native.Nat.{ℕ, _+_, _-_, _≤_, _<_}
 use native.Mathlib.Omega.{arith}
 use lib.Dec.{eqb}
 use borrow.Author.Tests.{eq-eqb, ne-eqb}
-use Rattle.board_records.specs.Bodies.{lenOf, whole, bodyLen}
-use Rattle.board_records.proofs.Lengths.{there}
+use Rattle.bodies.specs.Bodies.{lenOf, whole, bodyLen}
+use Rattle.bodies.proofs.Lengths.{there}
 use Rattle.offer_records.specs.Offers.{offerLen}
 
 module _ (k : ℕ) (bs : List ℕ) (i n r : ℕ) where

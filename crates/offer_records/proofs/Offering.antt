@@ -7,15 +7,15 @@ use native.Mathlib.Omega.{arith}
 use lib.ListN.{length, drop, length-append, length-map}
 use lib.Dec.{leb, eqb}
 use borrow.Author.Tests.{le-leb, lt-leb, eq-eqb, ne-eqb}
-use Rattle.records.specs.Numbers.{little}
+use Rattle.slot_text.specs.Numbers.{little}
 use Rattle.board.specs.declared.Entered.{Entered}
 use Rattle.scheduler.specs.Placing.{Reply, placed, chosenNone, none, refused, rowOf, slateAfter, placeReply}
 use Rattle.scheduler.specs.Committing.{commitReply}
 use Rattle.placing.specs.declared.Placement.{Placement}
 use Rattle.placing.specs.Told as placed
-use Rattle.board_records.specs.declared.Desk.{Desk}
+use Rattle.desk.specs.declared.Desk.{Desk}
 use Rattle.board_records.specs.declared.Stepped.{Stepped}
-use Rattle.board_records.specs.Bodies.{byte}
+use Rattle.bodies.specs.Bodies.{byte}
 use Rattle.board_records.specs.Records.{entered, stepReply}
 use Rattle.offer_records.specs.declared.Turn.{Turn}
 use Rattle.offer_records.specs.declared.Answer.{Answer}

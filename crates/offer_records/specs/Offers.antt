@@ -5,15 +5,15 @@ use mathlib.Core.Bool.{true, false, not, cond}
 use mathlib.Core.List.{List}
 use lib.ListN.{length}
 use lib.Dec.{leb, eqb}
-use Rattle.records.specs.Numbers.{little}
+use Rattle.slot_text.specs.Numbers.{little}
 use Rattle.scheduler.specs.Placing.{Reply, slateAfter, placeReply}
 use Rattle.scheduler.specs.Committing.{commitReply}
 use Rattle.placing.specs.declared.Placement.{Placement}
 use Rattle.placing.specs.declared.Placement.the-variants.{Placed, ChosenNone, None, Refused}
 use Rattle.placing.specs.Told as placed
-use Rattle.board_records.specs.declared.Desk.{Desk}
+use Rattle.desk.specs.declared.Desk.{Desk}
 use Rattle.board_records.specs.declared.Stepped.{Stepped}
-use Rattle.board_records.specs.Bodies.{byte, whole, bodyLen}
+use Rattle.bodies.specs.Bodies.{byte, whole, bodyLen}
 use Rattle.board_records.specs.Records.{entered, stepReply}
 use Rattle.offer_records.specs.declared.Turn.{Turn}
 use Rattle.offer_records.specs.declared.Answer.{Answer}

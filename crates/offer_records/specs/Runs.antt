@@ -1,7 +1,7 @@
 -- Small runs on the definitions.
 use mathlib.Core.Path.{_≡_, refl}
 use mathlib.Core.List.{[], _∷_}
-use Rattle.board_records.specs.Bodies.{fixedLen, lenOf, whole, bodyLen}
+use Rattle.bodies.specs.Bodies.{fixedLen, lenOf, whole, bodyLen}
 use Rattle.offer_records.specs.Offers.{offerLen}
 
 -- bodies of 8 and 20 bytes, whole and cut; one as elsewhere; kinds 6, 27 and 40 are unknown

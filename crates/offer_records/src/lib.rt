@@ -1,11 +1,11 @@
 // What a record of a stream does in `offer` (docs/RECORDS.md, kinds 1 to 4 and 16 to 26): to a diary in hand, an order in hand, a board
 // and a slate.
-use board_records::Desk;
 use board_records::Stepped;
-use board_records::body_len;
 use board_records::step;
+use bodies::body_len;
+use desk::Desk;
 use placing::Placement;
-use records::number;
+use slot_text::number;
 ghost use mathlib.Core.Path.{_≡_};
 ghost use Prim.Native.Nat.{_+_, _≤_};
 ghost use lib.ListN.{length};

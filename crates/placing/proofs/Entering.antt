@@ -29,7 +29,7 @@ use Rattle.scheduler.specs.Plain.{enough, heldAt}
 use Rattle.scheduler.specs.Meaning.{choosing-means, some-of-each}
 use Rattle.scheduler.specs.Reported.{held-at-whole, entries-sound}
 use Rattle.entries.specs.Parts.{noEntry}
-use Rattle.placing.specs.Told.{Entered}
+use Rattle.placing.specs.Steps.{EntriesOn}
 
 -- only a diary on the board keeps the rules
 on-if-valid : (b : Board) (n : ℕ) → timeline.valid (diaryOf b n) ≡ true → onBoard b n ≡ true
@@ -90,5 +90,5 @@ module _ (b : Board) (v : valid b ≡ true) (a : Activity) (ready t : ℕ) (lawf
         let w : Each (λ y. 1 ≤ y .units) (take n es) = subst (Each (λ y. 1 ≤ y .units)) (sym f) (entries-some a (heldTo b hs m) (held-usage b (take m hs) (each-cells (λ h. 1 ≤ h .usage) noHold m hs few (places .some)))) in
         rw (getD-take n es k noEntry i) at (each-at (λ y. 1 ≤ y .units) noEntry (take n es) w k (omega (arith, z)))
 
-    pub entered : Entered b es n
+    pub entered : EntriesOn b es n
     entered = record { few = l; long = long; each = λ k i. (on k i, units k i) }

@@ -16,11 +16,12 @@ use Rattle.board.specs.Valid.{valid}
 use Rattle.scheduler.specs.Alone.{spanOf}
 use Rattle.scheduler.specs.Choosing.{Held, Choice, noChoice, chosen, choosing}
 use Rattle.scheduler.specs.Fitting.{entriesOf, spanTogether}
-use Rattle.scheduler.specs.Placing.{Reply, none, refused, fitted, fitChosen, timeOnly, byRequirements, placing, refusedOr, placeReply}
+use Rattle.scheduler.specs.Placing.{Reply, none, refused, fitted, fitChosen, timeOnly, byRequirements, placing, placeReply}
+use Rattle.calendar.specs.Refusals.{refusedOr, refused-by}
 use Rattle.scheduler.specs.Holds.{heldTo}
 use Rattle.choosing.specs.declared.Choice as code
 use Rattle.choosing.specs.Rounds.{choiceOf}
-use Rattle.placing.specs.Told.{orderRefusal}
+use Rattle.placing.specs.Steps.{orderRefusal}
 use Rattle.placing.proofs.Telling.{refusal-off, refusal-15}
 
 -- the order from its release on is not refused either
@@ -43,15 +44,10 @@ module _ (b : Board) (a : Activity) (ready slate : ℕ) where
   unfolding placeReply refusedOr
   reply-15 v = rw (refusal-15 b a ready slate v) refl
 
-  refused-is : (n : ℕ) (r : Reply) → (n ≡ 0 → ⊥) → refusedOr n r ≡ refused n
-  unfolding refusedOr
-  refused-is zero r h = absurd (h refl)
-  refused-is (suc n) r h = refl
-
   module _ (v : valid b ≡ true) where
     pub reply-refused : (n : ℕ) → n ≡ orderRefusal a ready slate → (n ≡ 0 → ⊥) → placeReply b a ready slate ≡ refused n
     unfolding placeReply
-    reply-refused n e h = rw (refusal-off b a ready slate v, ← e) (refused-is n (placing b a (readyOf (a .release) ready)) h)
+    reply-refused n e h = rw (refusal-off b a ready slate v, ← e) (sym (refused-by refused n (placing b a (readyOf (a .release) ready)) h))
 
     module _ (e : orderRefusal a ready slate ≡ 0) where
       abbrev from : ℕ

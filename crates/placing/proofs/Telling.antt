@@ -15,7 +15,7 @@ use Rattle.calendar.specs.Search.{Found, nothing, at, leastFrom}
 use Rattle.calendar.specs.Work.{lastChange, jointEnd}
 use Rattle.timeline.specs.Ask as asking
 use Rattle.timeline.specs.Bookings.{latestEnd}
-use Rattle.timeline.specs.Book.{diary}
+use Rattle.timeline.specs.Diary.{diary}
 use Rattle.timeline.specs.Earliest.{lastEvent}
 use Rattle.timeline.proofs.Keeping.{bookings-diary}
 use Rattle.activity.specs.declared.Activity.{Activity}
@@ -31,7 +31,9 @@ use Rattle.scheduler.specs.Latest.{last-small}
 use Rattle.scheduler.specs.Together.{Sound}
 use Rattle.scheduler.specs.Owning.{ownShare, suitsOn, suits-on}
 use Rattle.fitting.specs.Jointly.{jointly, ended}
-use Rattle.placing.specs.Told.{unbroken, closing, orderRefusal, told}
+use Rattle.timeline.specs.Ask.{unbroken}
+use Rattle.placing.specs.Steps.{closing, orderRefusal}
+use Rattle.placing.specs.Told.{told}
 use Rattle.placing.specs.declared.Placement.the-variants.{Placed, ChosenNone}
 
 -- nothing changes on the order's own calendar but its own edges

@@ -17,26 +17,12 @@ use Rattle.scheduler.specs.Alike.{Alike, NoExtra}
 use Rattle.scheduler.specs.Demand3.{Demand3, demand-3}
 use Rattle.placing.specs.declared.Placement.{Placement}
 use Rattle.placing.specs.declared.Placement.the-variants.{Placed, ChosenNone, None, Refused}
-use Rattle.placing.specs.Told.{told}
+use Rattle.placing.specs.Told.{told, instantOf, refusedBy}
 
 -- a call on a board with an order, from ready on, over a slate: its answer and the slate afterwards (the contract of `place_activity`)
 pub record Called (b : Board) (a : Activity) (ready : ℕ) (slate : List (List ℕ)) (r : Placement) (after : List (List ℕ)) : Type 0 where
   pub reply : r ≡ told (placeReply b a ready (length slate))
   pub rows : after ≡ slateAfter (placeReply b a ready (length slate)) slate
-
--- the choosing instant that an answer tells
-unfoldable pub instantOf : Placement → Found
-instantOf (Placed t s e n) = at t
-instantOf (ChosenNone t) = at t
-instantOf None = nothing
-instantOf (Refused n) = nothing
-
--- the refusal that it tells, 0 for none
-unfoldable pub refusedBy : Placement → ℕ
-refusedBy (Placed t s e n) = 0
-refusedBy (ChosenNone t) = 0
-refusedBy None = 0
-refusedBy (Refused n) = n
 
 -- no extra is on the resource of a row
 abbrev pub RowSpared : Board → Board → List ℕ → Type 0

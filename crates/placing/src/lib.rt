@@ -1,7 +1,7 @@
 // Placing an order on a board (`place_activity` in scheduler/simple.rs; 01, 'Placing' and its replies).
 use activity::Activity;
-use asks::core::Start;
 use board::Board;
+use earliest::Start;
 use entries::Entries;
 use entries::Together;
 use fitting::Closing;
@@ -20,7 +20,8 @@ ghost use Rattle.scheduler.specs.Shares.{sharesTo, Wanted};
 ghost use Rattle.fitting.specs.Jointly.{fitOf};
 ghost use Rattle.alone.specs.Plans.{Known};
 ghost use Rattle.entries.specs.Parts.{noEntry};
-ghost use Rattle.placing.specs.Told.{closing, Entered, orderRefusal, told};
+ghost use Rattle.placing.specs.Steps.{closing, EntriesOn, orderRefusal};
+ghost use Rattle.placing.specs.Told.{told};
 
 // What placing answers: choosing instant, start, end and how many entries; 'chosen, none' with the choosing instant; none; a refusal.
 pub enum Placement {
@@ -70,12 +71,12 @@ fn fitted(
     span: u64,
     slate: &mut [[u64; 4]],
 ) -> Placement
-    requires { ⌜ (valid b ≡ true) × Known b places × (calendar.valid (a .calendar) ≡ true) × Entered b (e .entries) (e .count) × (t ≤ 2 ^ 43) × (span ≤ 2 ^ 53) × (24 ≤ length (now slate)) ⌝ }
+    requires { ⌜ (valid b ≡ true) × Known b places × (calendar.valid (a .calendar) ≡ true) × EntriesOn b (e .entries) (e .count) × (t ≤ 2 ^ 43) × (span ≤ 2 ^ 53) × (24 ≤ length (now slate)) ⌝ }
     ensures { λ r. ⌜ r ≡ told (placement.fitted b a span t (take (e .count) (e .entries))) ⌝ }
     ensures { λ _. ⌜ now (slate .exit) ≡ slateAfter (placement.fitted b a span t (take (e .count) (e .entries))) (now (slate .entry)) ⌝ }
 {
     let own = a.calendar;
-    let g = entries::closing_of(b, e, places, own);
+    let g = closing::closing_of(b, e, places, own);
     let f = closing_fit(g, a.resumable, span, t);
     match f {
         Fit::At(s, end) => {
@@ -97,7 +98,7 @@ fn order_refusal(a: Activity, ready: u64, slate: usize) -> u8
     if slate < 24 {
         return 7;
     }
-    activity::core::refusal(a, ready)
+    order_checks::refusal(a, ready)
 }
 
 // Places the order from ready on, and writes the entries of a placement at the front of the slate; or refuses: 15 a board or an own
@@ -106,7 +107,7 @@ pub fn place_activity(b: Board, a: Activity, ready: u64, slate: &mut [[u64; 4]])
     ensures { λ r. ⌜ r ≡ told (placeReply b a ready (length (now (slate .entry)))) ⌝ }
     ensures { λ _. ⌜ now (slate .exit) ≡ slateAfter (placeReply b a ready (length (now (slate .entry)))) (now (slate .entry)) ⌝ }
 {
-    let p = board::core::places_of(b);
+    let p = board_rules::places_of(b);
     if !p.right {
         return Placement::Refused(15);
     }

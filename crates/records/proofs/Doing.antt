@@ -11,14 +11,15 @@ use lib.Dec.{eqb}
 use borrow.Author.Tests.{lt-ltb, le-ltb, le-leb, lt-leb, eq-eqb, ne-eqb}
 use Rattle.timeline.specs.declared.ResourceTimeline.{ResourceTimeline}
 use Rattle.timeline.specs.declared.Booked.{Booked}
-use Rattle.timeline.specs.Book.{newDiary, bookReply, calendarReply}
+use Rattle.timeline.specs.Diary.{newDiary}
+use Rattle.timeline.specs.Book.{bookReply, calendarReply}
 use Rattle.timeline.specs.Ask.{Reply, refused, fitReply, resumableReply}
-use Rattle.records.specs.declared.Line.{Line}
+use Rattle.slot_text.specs.declared.Line.{Line}
 use Rattle.records.specs.declared.Stepped.{Stepped}
 use Rattle.records.specs.declared.Turn.{Turn}
-use Rattle.records.specs.declared.Line.the-variants.{Nothing, Refused}
-use Rattle.records.specs.Lines.{nothing, line, lineOf}
-use Rattle.records.specs.Numbers.{little}
+use Rattle.slot_text.specs.declared.Line.the-variants.{Nothing, Refused}
+use Rattle.slot_text.specs.Lines.{nothing, line, lineOf}
+use Rattle.slot_text.specs.Numbers.{little}
 use Rattle.records.specs.Records.{Done, Turned, bodyLen, steppedOf, turnOf, capacityReply, books, asks, recordDoes, ends, turnReply}
 
 pub books-taken : (b : Booked) → b .refusal ≡ 0 → steppedOf (record { timeline = b .timeline; line = Nothing }) ≡ books b

@@ -1,4 +1,3 @@
 -- Laws on plain values, for the proofs of this crate.
-pub mod Figures
 pub mod Lengths
 pub mod Doing

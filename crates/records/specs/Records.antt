@@ -1,4 +1,4 @@
--- What a record does.
+-- 01, 'Program slot': what a record does.
 use Prim.Native.Nat.{ℕ, _+_, _-_, _^_}
 use mathlib.Core.Bool.{Bool, true, false, cond, _||_}
 use mathlib.Core.List.{List, []}
@@ -8,20 +8,29 @@ use lib.Dec.{leb, ltb, eqb}
 use Rattle.calendar.specs.Add.{addWindow, addBlock}
 use Rattle.timeline.specs.declared.ResourceTimeline.{ResourceTimeline}
 use Rattle.timeline.specs.declared.Booked.{Booked}
-use Rattle.timeline.specs.Book.{newDiary, bookReply, calendarReply}
+use Rattle.timeline.specs.Diary.{newDiary}
+use Rattle.timeline.specs.Book.{bookReply, calendarReply}
 use Rattle.timeline.specs.Ask.{Reply, refused, fitReply, resumableReply}
 use Rattle.records.specs.declared.Stepped.{Stepped}
 use Rattle.records.specs.declared.Turn.{Turn}
-use Rattle.records.specs.Numbers.{little}
-use Rattle.records.specs.Lines.{Printed, nothing, line, lineOf}
+use Rattle.slot_text.specs.Numbers.{little}
+use Rattle.slot_text.specs.Lines.{Printed, nothing, line, lineOf}
 
 -- kind 1: capacity (4 bytes); 2 window, 3 block: start, end (8 each); 4 booking: start, end, units (4); 5 fit, 6 resumable: from, span,
--- units. Any other kind is unknown: 21
+-- units. 21, more than any body has, for any other kind
 unfoldable pub bodyLen : ℕ → ℕ
 bodyLen kind =
     cond (eqb kind 1) 4
     (cond (eqb kind 2 || eqb kind 3) 16
     (cond (eqb kind 4 || (eqb kind 5 || eqb kind 6)) 20 21))
+
+-- an unknown kind
+abbrev pub unknown : ℕ → Bool
+unknown kind = ltb 20 (bodyLen kind)
+
+-- a cut body: behind the kind byte at index i fewer bytes are left, up to index n, than the body has
+abbrev pub cut : ℕ → ℕ → ℕ → Bool
+cut kind i n = leb (n - i) (bodyLen kind)
 
 -- the diary after a record, and what the record prints
 pub record Done : Type 0 where
@@ -72,5 +81,5 @@ ends t p i = record { done = record { timeline = t; prints = p }; at = i; more =
 unfoldable pub turnReply : ResourceTimeline → List ℕ → ℕ → ℕ → Turned
 turnReply t bs i n =
     cond (leb n i) (ends t nothing i)
-    (cond (ltb 20 (bodyLen (getD bs i 0)) || leb (n - i) (bodyLen (getD bs i 0))) (ends t (line (refused 9)) i)
+    (cond (unknown (getD bs i 0) || cut (getD bs i 0) i n) (ends t (line (refused 9)) i)
     (record { done = recordDoes t (getD bs i 0) bs (i + 1); at = i + 1 + bodyLen (getD bs i 0); more = true }))

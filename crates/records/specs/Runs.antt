@@ -13,11 +13,13 @@ use Rattle.timeline.specs.Bookings.{bookingsTo, total, latestEnd}
 use Rattle.timeline.specs.Valid.{before, cellRight, cellEmpty, filledFrom, emptyFrom, valid}
 use Rattle.timeline.specs.Free.{overlaps, onAt, load, roomFrom, free}
 use Rattle.timeline.specs.Earliest.{fitsAt, lastEvent, earliestFit}
-use Rattle.timeline.specs.Book.{capacityOf, insertBooking, latestEnds, diary, bookRefusal, taken, bookReply}
-use Rattle.timeline.specs.Ask.{unbroken, askRefusal, refusedOr, asked}
+use Rattle.timeline.specs.Diary.{capacityOf, insertBooking, latestEnds, diary}
+use Rattle.timeline.specs.Book.{bookRefusal, taken, bookReply}
+use Rattle.timeline.specs.Ask.{unbroken, askRefusal, asked}
+use Rattle.calendar.specs.Refusals.{refusedOr}
 use Rattle.streams.specs.Text.{decimalTo}
-use Rattle.records.specs.Numbers.{little}
-use Rattle.records.specs.Lines.{textOf}
+use Rattle.slot_text.specs.Numbers.{little}
+use Rattle.slot_text.specs.Lines.{textOf}
 use Rattle.records.specs.Records.{bodyLen, books, asks, recordDoes, turnReply}
 use Rattle.records.specs.Stream.{goOn, streamFrom, slot}
 

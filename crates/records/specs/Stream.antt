@@ -1,12 +1,12 @@
--- A whole stream: what the program `slot` prints for the bytes of its input.
+-- 01, 'Program slot': a whole stream, what the program `slot` prints for the bytes of its input.
 use Prim.Native.Nat.{ℕ, zero, suc}
 use mathlib.Core.Bool.{true, false}
 use mathlib.Core.List.{List, [], _++_}
 use lib.ListN.{length}
 use lib.IntN.{pos}
 use Rattle.timeline.specs.declared.ResourceTimeline.{ResourceTimeline}
-use Rattle.timeline.specs.Book.{newDiary}
-use Rattle.records.specs.Lines.{textOf}
+use Rattle.timeline.specs.Diary.{newDiary}
+use Rattle.slot_text.specs.Lines.{textOf}
 use Rattle.records.specs.Records.{Turned, turnReply}
 
 -- what a record prints, and what follows it

@@ -1,28 +1,16 @@
 // What a record of a stream does to a diary and what it prints (01, 'Program slot'). Everything that `slot` decides is here.
 use asks::Answer;
+use slot_text::Line;
+use slot_text::number;
 use timeline::Booked;
 use timeline::ResourceTimeline;
-
-mod lines;
-mod numbers;
-
-pub use lines::text;
-pub use numbers::number;
 ghost use mathlib.Core.Path.{_≡_};
 ghost use Prim.Native.Nat.{_+_, _≤_};
 ghost use lib.ListN.{length};
 ghost use mathlib.Core.Bool.{false};
-ghost use Rattle.records.specs.Lines.{lineOf, line as printed};
+ghost use Rattle.slot_text.specs.Lines.{lineOf, line as printed};
 ghost use Rattle.records.specs.Records.{bodyLen, steppedOf, turnOf, capacityReply, books, asks, recordDoes, turnReply};
 ghost use Rattle.asks.specs.Answers.{replyOf};
-
-// What a record prints.
-pub enum Line {
-    Nothing,
-    Fit(u64, u64),
-    None,
-    Refused(u8),
-}
 
 // What a record does: the diary afterwards, and what it prints.
 pub struct Stepped {
@@ -116,10 +104,10 @@ pub fn step(timeline: ResourceTimeline, kind: u8, bytes: &[u8], at: usize) -> St
     let first = number(bytes, at, 8);
     let second = number(bytes, at + 8, 8);
     if kind == 2 {
-        return told(timeline.add_window(first, second));
+        return told(windows::add_window(timeline, first, second));
     }
     if kind == 3 {
-        return told(timeline.add_block(first, second));
+        return told(windows::add_block(timeline, first, second));
     }
     let units = number(bytes, at + 16, 4) as u32;
     if kind == 4 {

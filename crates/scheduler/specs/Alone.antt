@@ -73,9 +73,11 @@ spanAlone a r = spanOf (setupOn r (a .category) (durationAlone a r .setup)) (dur
 unfoldable pub arrival : Board → Activity → ℕ → Resource → ℕ
 arrival b a ready r = ready + transportTo b (a .origins) (r .number)
 
--- its least start from the later of t and its arrival where its companions also fit; a companion not on the board rules it out
+-- the least start of a span from an instant on where its companions also fit; a companion not on the board rules it out
+unfoldable pub startWith : Board → Resource → ℕ → Bool → ℕ → ℕ → Found
+startWith b r usage resumable span from =
+    cond (every (onBoard b) (companionsOf r)) (earliestOf resumable span (withCompanions b r usage) from) nothing
+
+-- its least start from the later of t and its arrival
 unfoldable pub startAlone : Board → Activity → ℕ → ResourceRequirement → Resource → ℕ → Found
-startAlone b a ready q r t =
-    cond (every (onBoard b) (companionsOf r))
-    (earliestOf (a .resumable) (spanAlone a r) (withCompanions b r (q .usage)) (max t (arrival b a ready r)))
-    nothing
+startAlone b a ready q r t = startWith b r (q .usage) (a .resumable) (spanAlone a r) (max t (arrival b a ready r))

@@ -18,7 +18,7 @@ use Rattle.activity.specs.Check.{every}
 use Rattle.board.specs.declared.Resource.{Resource}
 use Rattle.board.specs.declared.Board.{Board}
 use Rattle.board.specs.Resources.{onBoard}
-use Rattle.scheduler.specs.Alone.{allStart, earliestOf, companionsOf, withCompanions, durationAlone, spanAlone, arrival, startAlone}
+use Rattle.scheduler.specs.Alone.{allStart, earliestOf, companionsOf, withCompanions, durationAlone, spanAlone, arrival, startWith, startAlone}
 use Rattle.scheduler.specs.Choosing.{answer, candidates}
 use Rattle.scheduler.specs.Plain.{startsThere, candidateAt, startable}
 use Rattle.scheduler.specs.Lists.{Each, each-end, each-on}
@@ -53,7 +53,7 @@ module _ (b : Board) (a : Activity) (ready : ℕ) (q : ResourceRequirement) wher
   served r t = cond (serves q (r .number) (r .kind) (r .skills)) (startAlone b a ready q r t) nothing
 
   pub alone-answers : (r : Resource) → Kept r → (t : ℕ) → Answers (startsThere b a ready q r) t (served r t)
-  unfolding startsThere startAlone
+  unfolding startsThere startAlone startWith
   alone-answers r k t = go (serves q (r .number) (r .kind) (r .skills)) (every (onBoard b) (companionsOf r)) refl
     where
       span : ℕ

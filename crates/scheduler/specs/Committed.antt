@@ -8,16 +8,17 @@ use native.Mathlib.Omega.{arith}
 use lib.ListN.{length, length-set}
 use lib.Dec.{leb, ltb, eqb}
 use lib.Seq.{getD-set-same, getD-set-other}
-use borrow.Author.Tests.{leb-true, ltb-false, leb-false, le-leb, eqb-true, eqb-false, eq-eqb, not-false}
+use borrow.Author.Tests.{leb-true, ltb-false, leb-false, le-leb, eqb-true, eqb-false, eq-eqb, not-true, not-false}
 use Rattle.calendar.specs.Basics.{and-split, and-join, lt-or-ge, same-or-not, unrefused}
 use Rattle.calendar.specs.Search.{Found, nothing, at}
 use Rattle.timeline.specs.declared.ResourceTimeline.{ResourceTimeline}
-use Rattle.timeline.specs.Bookings.{bookings}
+use Rattle.timeline.specs.Bookings.{Booking, bookings}
 use Rattle.timeline.specs.Valid as timeline
-use Rattle.timeline.specs.Book.{diary}
+use Rattle.timeline.specs.Diary.{insertBooking, diary}
 use Rattle.timeline.proofs.Rules as timeline-rules
 use Rattle.timeline.proofs.Rows.{count}
-use Rattle.timeline.proofs.Keeping.{booked-keeps, length-inserted}
+use Rattle.timeline.proofs.Keeping.{booked-keeps, length-inserted, bookings-diary}
+use Rattle.timeline.proofs.Meaning.{times}
 use Rattle.activity.specs.Check.{every}
 use Rattle.board.specs.declared.LastCategory.the-variants.{Category}
 use Rattle.board.specs.declared.Resource.{Resource}
@@ -29,6 +30,8 @@ use Rattle.board.proofs.Facts.{rules}
 use Rattle.board.proofs.Meaning.{lookup-means, resource-rules}
 use Rattle.board.proofs.Keeping.{valid-with}
 use Rattle.scheduler.specs.Alone.{resourceIn, diaryOf}
+use Rattle.scheduler.specs.Alike.{AlikeDiary}
+use Rattle.scheduler.specs.Lending.{same-alike}
 use Rattle.scheduler.specs.Committing.{Line, entriesOn, linesOf, linesRefusal, commitRefusal, withBooking, lastAfter, booked, bookAll, commitReply}
 use Rattle.scheduler.specs.Lists.{Each, each-end, each-on, each-map}
 use Rattle.calendar.specs.Meaning.{least-same}
@@ -104,6 +107,117 @@ module _ (start end category : ℕ) where
   unfolding bookAll
   frame-long [] b = refl
   frame-long (l ∷ ls) b = frame-long ls (changed b (lookup b (l .number)) (booked start end category l)) ∙ step-long b l (lookup b (l .number))
+
+-- a booking more: every booking is kept
+inserted-more : (x b : Booking) (xs : List Booking) → times b xs ≤ times b (insertBooking x xs)
+unfolding times insertBooking
+inserted-more x b [] = omega arith
+inserted-more x b (y ∷ ys) = go (leb (y .start) (x .start)) (inserted-more x b ys)
+  where
+    go : (q : Bool) → times b ys ≤ times b (insertBooking x ys) → times b (y ∷ ys) ≤ times b (cond q (y ∷ insertBooking x ys) (x ∷ y ∷ ys))
+    go true h = omega arith
+    go false h = omega arith
+
+-- what a commitment leaves of a resource, named or not: all but the bookings, each of which is kept, and the last category
+pub record Framed (r s : Resource) : Type 0 where
+  pub number-same : r .number ≡ s .number
+  pub kind-same : r .kind ≡ s .kind
+  pub skills-same : r .skills ≡ s .skills
+  pub companions-same : r .companions ≡ s .companions
+  pub count-same : r .count ≡ s .count
+  pub matrix-same : r .matrix ≡ s .matrix
+  pub diary-alike : AlikeDiary (r .timeline) (s .timeline)
+
+framed-self : (r : Resource) → Framed r r
+framed-self r = record { number-same = refl; kind-same = refl; skills-same = refl; companions-same = refl; count-same = refl; matrix-same = refl; diary-alike = same-alike (r .timeline) }
+
+framed-on : (r s t : Resource) → Framed r s → Framed s t → Framed r t
+framed-on r s t p q = record {
+  number-same = p .number-same ∙ q .number-same;
+  kind-same = p .kind-same ∙ q .kind-same;
+  skills-same = p .skills-same ∙ q .skills-same;
+  companions-same = p .companions-same ∙ q .companions-same;
+  count-same = p .count-same ∙ q .count-same;
+  matrix-same = p .matrix-same ∙ q .matrix-same;
+  diary-alike = record {
+    capacity-same = p .diary-alike .capacity-same ∙ q .diary-alike .capacity-same;
+    calendar-same = p .diary-alike .calendar-same ∙ q .diary-alike .calendar-same;
+    more = λ b. omega (arith, p .diary-alike .more b, q .diary-alike .more b);
+  };
+}
+
+module _ (start end category : ℕ) where
+  booked-framed : (l : Line) (r : Resource) → Framed r (booked start end category l r)
+  unfolding booked withBooking diary
+  booked-framed l r =
+      let x : Booking = record { start = start; end = end; units = l .units } in
+      let t = r .timeline in
+      record {
+        number-same = refl;
+        kind-same = refl;
+        skills-same = refl;
+        companions-same = refl;
+        count-same = refl;
+        matrix-same = refl;
+        diary-alike = record {
+          capacity-same = refl;
+          calendar-same = refl;
+          more = λ b. rw (bookings-diary (t .capacity) (t .calendar) (insertBooking x (bookings t))) (inserted-more x b (bookings t));
+        };
+      }
+
+  step-framed : (b : Board) (l : Line) (i : ℕ) → i < length (b .resources) → Framed (resourceAt b i) (resourceAt (changed b (lookup b (l .number)) (booked start end category l)) i)
+  unfolding changed
+  step-framed b l i h = go (lookup b (l .number))
+    where
+      go : (f : Found) → Framed (resourceAt b i) (resourceAt (changed b f (booked start end category l)) i)
+      go nothing = framed-self (resourceAt b i)
+      go (at j) =
+          ⊎-elim
+          (λ (e : j ≡ i). rw (← e) (subst (Framed (resourceAt b j)) (sym (getD-set-same (b .resources) j (booked start end category l (resourceAt b j)) noResource (rw e h))) (booked-framed l (resourceAt b j))))
+          (λ (e : i ≡ j → ⊥). subst (Framed (resourceAt b i)) (sym (getD-set-other (b .resources) j i (booked start end category l (resourceAt b j)) noResource e)) (framed-self (resourceAt b i)))
+          (same-or-not j i)
+
+  -- of each resource only the bookings and the last category change, and every booking is kept
+  pub frame-resource : (ls : List Line) (b : Board) (i : ℕ) → i < length (b .resources) → Framed (resourceAt b i) (resourceAt (bookAll start end category ls b) i)
+  unfolding bookAll
+  frame-resource [] b i h = framed-self (resourceAt b i)
+  frame-resource (l ∷ ls) b i h =
+      let b′ = changed b (lookup b (l .number)) (booked start end category l) in
+      framed-on (resourceAt b i) (resourceAt b′ i) (resourceAt (bookAll start end category ls b′) i) (step-framed b l i h)
+      (frame-resource ls b′ i (rw (step-long start end category b l (lookup b (l .number))) h))
+
+  -- an entry that is no companion names the resource, and it has a matrix
+  abbrev pub takesCategory : Resource → Line → Bool
+  takesCategory r l = eqb (l .number) (r .number) && (r .matrix .present && not (l .companion))
+
+  step-last : (b : Board) (l : Line) (i : ℕ) → i < length (b .resources) → takesCategory (resourceAt b i) l ≡ false
+      → resourceAt (changed b (lookup b (l .number)) (booked start end category l)) i .last ≡ resourceAt b i .last
+  unfolding changed booked lastAfter
+  step-last b l i h off = go (lookup b (l .number)) refl
+    where
+      go : (f : Found) → lookup b (l .number) ≡ f → resourceAt (changed b f (booked start end category l)) i .last ≡ resourceAt b i .last
+      go nothing e = refl
+      go (at j) e =
+          ⊎-elim
+          (λ (q : j ≡ i).
+          let n : eqb (l .number) (numberAt b i) ≡ true = eq-eqb (l .number) (numberAt b i) (rw (← q) (sym (lookup-means b (l .number) j e .1))) in
+          let k : resourceAt b j .matrix .present && not (l .companion) ≡ false = rw q (rw n at off) in
+          rw (← q) (ap (λ (x : Resource). x .last) (getD-set-same (b .resources) j (booked start end category l (resourceAt b j)) noResource (rw q h)) ∙ rw k refl))
+          (λ (q : i ≡ j → ⊥). ap (λ (x : Resource). x .last) (getD-set-other (b .resources) j i (booked start end category l (resourceAt b j)) noResource q))
+          (same-or-not j i)
+
+  -- the last category of a resource stays unless an entry takes it there
+  pub last-kept : (ls : List Line) (b : Board) (i : ℕ) → i < length (b .resources) → every (λ l. not (takesCategory (resourceAt b i) l)) ls ≡ true
+      → resourceAt (bookAll start end category ls b) i .last ≡ resourceAt b i .last
+  unfolding bookAll every
+  last-kept [] b i h off = refl
+  last-kept (l ∷ ls) b i h off =
+      let b′ = changed b (lookup b (l .number)) (booked start end category l) in
+      let w = and-split (not (takesCategory (resourceAt b i) l)) (every (λ l. not (takesCategory (resourceAt b i) l)) ls) off in
+      let f = step-framed b l i h in
+      last-kept ls b′ i (rw (step-long start end category b l (lookup b (l .number))) h) (rw (← f .number-same, ← f .matrix-same) (w .1))
+      ∙ step-last b l i h (not-true (takesCategory (resourceAt b i) l) (w .0))
 
 placeIn : Found → ℕ
 placeIn nothing = 0

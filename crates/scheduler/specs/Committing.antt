@@ -4,9 +4,10 @@ use mathlib.Core.Bool.{Bool, not, _&&_, _||_, cond}
 use mathlib.Core.List.{List, [], _∷_, map}
 use lib.ListN.{length, getD, take}
 use lib.Dec.{leb, ltb, eqb}
+use Rattle.calendar.specs.Limits.{lastInstant, mostUnits, mostBookings}
 use Rattle.timeline.specs.declared.ResourceTimeline.{ResourceTimeline}
 use Rattle.timeline.specs.Bookings.{bookings}
-use Rattle.timeline.specs.Book.{insertBooking, diary}
+use Rattle.timeline.specs.Diary.{insertBooking, diary}
 use Rattle.activity.specs.Check.{every}
 use Rattle.board.specs.declared.LastCategory.{LastCategory}
 use Rattle.board.specs.declared.LastCategory.the-variants.{Category}
@@ -40,10 +41,10 @@ entriesOn number (l ∷ ls) = cond (eqb (l .number) number) 1 0 + entriesOn numb
 unfoldable pub linesRefusal : Board → List Line → ℕ → ℕ → ℕ → ℕ
 linesRefusal b ls start end category =
     cond (not (every (λ l. onBoard b (l .number)) ls) || ltb 15 category) 5
-    (cond (ltb (2 ^ 42) start || ltb (2 ^ 42) end) 1
+    (cond (ltb lastInstant start || ltb lastInstant end) 1
     (cond (leb end start) 2
-    (cond (not (every (λ l. leb 1 (l .units) && leb (l .units) 10000) ls)) 3
-    (cond (not (every (λ l. leb (diaryOf b (l .number) .len + entriesOn (l .number) ls) 64) ls)) 4 0))))
+    (cond (not (every (λ l. leb 1 (l .units) && leb (l .units) mostUnits) ls)) 3
+    (cond (not (every (λ l. leb (diaryOf b (l .number) .len + entriesOn (l .number) ls) mostBookings) ls)) 4 0))))
 
 -- 15 before all else; no entries: accepted; 7 entry count above the slate; then the rest
 unfoldable pub commitRefusal : Board → List (List ℕ) → ℕ → ℕ → ℕ → ℕ → ℕ

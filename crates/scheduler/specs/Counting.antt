@@ -14,7 +14,7 @@ use Rattle.calendar.specs.Basics.{not-both, lt-or-ge}
 use Rattle.calendar.specs.Search.{Found, nothing, at}
 use Rattle.calendar.specs.Valid as calendar
 use Rattle.calendar.proofs.Rules as calendar-rules
-use Rattle.timeline.specs.Book.{diary}
+use Rattle.timeline.specs.Diary.{diary}
 use Rattle.timeline.proofs.Searching.{Sought, sought-start}
 use Rattle.activity.specs.declared.ResourceRequirement.{ResourceRequirement}
 use Rattle.activity.specs.declared.Activity.{Activity}

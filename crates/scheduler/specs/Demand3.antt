@@ -21,7 +21,8 @@ use Rattle.scheduler.specs.Alone.{spanOf}
 use Rattle.scheduler.specs.Choosing.{Held, Choice, noChoice, chosen, choosing}
 use Rattle.scheduler.specs.declared.Entry.{Entry}
 use Rattle.scheduler.specs.Fitting.{entriesOf, spanTogether, sharesOf, fitting, endOf}
-use Rattle.scheduler.specs.Placing.{Reply, placed, chosenNone, none, refused, ended, started, fitted, fitChosen, timeOnly, byRequirements, placing, refusedOr, placeRefusal, placeReply, rowOf, slateAfter, choosingInstant, refusalOf}
+use Rattle.calendar.specs.Refusals.{refusedOr}
+use Rattle.scheduler.specs.Placing.{Reply, placed, chosenNone, none, refused, ended, started, fitted, fitChosen, timeOnly, byRequirements, placing, placeRefusal, placeReply, rowOf, slateAfter, choosingInstant, refusalOf}
 use Rattle.scheduler.specs.Plain.{enough, heldAt}
 use Rattle.scheduler.specs.Lists.{Each, each-end, Pairs}
 use Rattle.scheduler.specs.Chosen.{Chooses}
@@ -130,24 +131,24 @@ fitted-entries b a span t es = go (fitting (a .resumable) (sharesOf b es) (a .ca
     go nothing h = absurd (not-both true refl (sym h))
     go (at s) h = end s (endOf (a .resumable) (sharesOf b es) (a .calendar) span s) h
 
-fitted-unrefused : (b : Board) (a : Activity) (span t : ℕ) (es : List Entry) → refusalOf (fitted b a span t es) ≡ 0
+fitted-unrefused : (b : Board) (a : Activity) (span t : ℕ) (es : List Entry) → refusalOf (fitted b a span t es) ≡ nothing
 unfolding fitted started ended refusalOf
 fitted-unrefused b a span t es = go (fitting (a .resumable) (sharesOf b es) (a .calendar) span t)
   where
-    end : (s : ℕ) (f : Found) → refusalOf (ended t s es f) ≡ 0
+    end : (s : ℕ) (f : Found) → refusalOf (ended t s es f) ≡ nothing
     end s nothing = refl
     end s (at e) = refl
 
-    go : (f : Found) → refusalOf (started (a .resumable) (sharesOf b es) a span t es f) ≡ 0
+    go : (f : Found) → refusalOf (started (a .resumable) (sharesOf b es) a span t es f) ≡ nothing
     go nothing = refl
     go (at s) = end s (endOf (a .resumable) (sharesOf b es) (a .calendar) span s)
 
 -- what passes the checks is not refused
-pub placing-unrefused : (b : Board) (a : Activity) (ready : ℕ) → refusalOf (placing b a ready) ≡ 0
+pub placing-unrefused : (b : Board) (a : Activity) (ready : ℕ) → refusalOf (placing b a ready) ≡ nothing
 unfolding placing byRequirements timeOnly fitChosen refusalOf
 placing-unrefused b a ready = go (requirementsOf a) (choosing b a ready)
   where
-    go : (l : List ResourceRequirement) (f : Choice) → refusalOf (byRequirements l (timeOnly b a ready) (fitChosen b a f)) ≡ 0
+    go : (l : List ResourceRequirement) (f : Choice) → refusalOf (byRequirements l (timeOnly b a ready) (fitChosen b a f)) ≡ nothing
     go [] f = fitted-unrefused b a (spanOf (a .duration .setup) (a .duration)) ready []
     go (q ∷ qs) noChoice = refl
     go (q ∷ qs) (chosen t hs) = fitted-unrefused b a (spanTogether a hs) t (entriesOf a hs)
@@ -214,9 +215,9 @@ module _ (b c : Board) (k : Alike b c) (a : Activity) (ready : ℕ) (slate other
 
   identical : (t s e : ℕ) (es : List Entry) → placeReply b a ready (length slate) ≡ placed t s e es → Each (λ x. NoExtra b c (x .number)) es → placeReply c a ready (length other) ≡ placed t s e es
   unfolding placeReply refusedOr isPlaced
-  identical t s e es h z = go (placeRefusal c a ready (length other)) refl (subst (λ (n : ℕ). refusedOr n (placing b a (readyOf (a .release) ready)) ≡ placed t s e es) refusals h)
+  identical t s e es h z = go (placeRefusal c a ready (length other)) refl (subst (λ (n : ℕ). refusedOr refused n (placing b a (readyOf (a .release) ready)) ≡ placed t s e es) refusals h)
     where
-      go : (n : ℕ) → placeRefusal c a ready (length other) ≡ n → refusedOr n (placing b a (readyOf (a .release) ready)) ≡ placed t s e es → refusedOr n (placing c a (readyOf (a .release) ready)) ≡ placed t s e es
+      go : (n : ℕ) → placeRefusal c a ready (length other) ≡ n → refusedOr refused n (placing b a (readyOf (a .release) ready)) ≡ placed t s e es → refusedOr refused n (placing c a (readyOf (a .release) ready)) ≡ placed t s e es
       go zero f g = placing-same b c k a (readyOf (a .release) ready) ready (lawful f) t s e es g z
       go (suc n) f g = not-placed (refused (suc n)) refl t s e es g
 
@@ -226,20 +227,20 @@ module _ (b c : Board) (k : Alike b c) (a : Activity) (ready : ℕ) (slate other
 
   never : (u : ℕ) → choosingInstant (placeReply c a ready (length other)) ≡ at u → (t : ℕ) × (choosingInstant (placeReply b a ready (length slate)) ≡ at t) × (t ≤ u)
   unfolding placeReply refusedOr choosingInstant
-  never u h = subst (λ (n : ℕ). (t : ℕ) × (choosingInstant (refusedOr n (placing b a (readyOf (a .release) ready))) ≡ at t) × (t ≤ u)) (sym refusals) (go (placeRefusal c a ready (length other)) refl h)
+  never u h = subst (λ (n : ℕ). (t : ℕ) × (choosingInstant (refusedOr refused n (placing b a (readyOf (a .release) ready))) ≡ at t) × (t ≤ u)) (sym refusals) (go (placeRefusal c a ready (length other)) refl h)
     where
-      go : (n : ℕ) → placeRefusal c a ready (length other) ≡ n → choosingInstant (refusedOr n (placing c a (readyOf (a .release) ready))) ≡ at u → (t : ℕ) × (choosingInstant (refusedOr n (placing b a (readyOf (a .release) ready))) ≡ at t) × (t ≤ u)
+      go : (n : ℕ) → placeRefusal c a ready (length other) ≡ n → choosingInstant (refusedOr refused n (placing c a (readyOf (a .release) ready))) ≡ at u → (t : ℕ) × (choosingInstant (refusedOr refused n (placing b a (readyOf (a .release) ready))) ≡ at t) × (t ≤ u)
       go zero f g = placing-later b c k a (readyOf (a .release) ready) ready (lawful f) u g
       go (suc n) f g = some-at u g
 
-  refusal-is : (d : Board) (n : ℕ) → refusalOf (refusedOr n (placing d a (readyOf (a .release) ready))) ≡ n
+  refusal-is : (d : Board) (n : ℕ) → refusalOf (refusedOr refused n (placing d a (readyOf (a .release) ready))) ≡ refusedOr at n nothing
   unfolding refusedOr refusalOf
   refusal-is d zero = placing-unrefused d a (readyOf (a .release) ready)
   refusal-is d (suc n) = refl
 
   same-numbers : refusalOf (placeReply b a ready (length slate)) ≡ refusalOf (placeReply c a ready (length other))
   unfolding placeReply
-  same-numbers = refusal-is b (placeRefusal b a ready (length slate)) ∙ refusals ∙ sym (refusal-is c (placeRefusal c a ready (length other)))
+  same-numbers = refusal-is b (placeRefusal b a ready (length slate)) ∙ ap (λ n. refusedOr at n nothing) refusals ∙ sym (refusal-is c (placeRefusal c a ready (length other)))
 
   written : (t s e : ℕ) (es : List Entry) (r : Reply) (l : List (List ℕ)) → r ≡ placed t s e es → take (length es) (slateAfter r l) ≡ map rowOf es
   unfolding slateAfter

@@ -12,19 +12,21 @@ use Rattle.calendar.specs.Basics.{and-split, not-both, unrefused}
 use Rattle.calendar.specs.Search.{Found, nothing, at}
 use Rattle.calendar.specs.Valid as calendar
 use Rattle.calendar.specs.Work.{jointEnd}
-use Rattle.timeline.proofs.Meaning.{Earliest}
+use Rattle.calendar.specs.Meaning.{fits-is, least-is}
+use Rattle.timeline.proofs.Meaning.{Earliest, straight}
 use Rattle.activity.specs.declared.ResourceRequirement.{ResourceRequirement}
 use Rattle.activity.specs.declared.Activity.{Activity}
 use Rattle.activity.specs.Check.{every, requirementsOf, quantity, quantitiesRight, usageRight, timingSpeed, timesRight, activityRefusal}
 use Rattle.board.specs.declared.Board.{Board}
 use Rattle.board.specs.Valid as board
-use Rattle.scheduler.specs.Alone.{Share}
+use Rattle.scheduler.specs.Alone.{Share, spanOf, allStart}
 use Rattle.scheduler.specs.Choosing.{Held, Choice, noChoice, chosen, choosing}
 use Rattle.scheduler.specs.declared.Entry.{Entry}
-use Rattle.scheduler.specs.Fitting.{entriesOf, spanTogether, sharesOf, calendarsOf, freeToEnd, startsAll, suits, fitting, endOf}
-use Rattle.scheduler.specs.Placing.{Reply, placed, chosenNone, none, refused, ended, started, fitted, fitChosen, byRequirements, placing, rowOf, slateAfter}
+use Rattle.scheduler.specs.Fitting.{entriesOf, spanTogether, sharesOf, fitsAll, allFree, calendarsOf, freeToEnd, startsAll, suits, fitting, endOf}
+use Rattle.scheduler.specs.Placing.{Reply, placed, chosenNone, none, refused, ended, started, fitted, fitChosen, timeOnly, byRequirements, placing, rowOf, slateAfter}
 use Rattle.scheduler.specs.Plain.{enough, heldAt}
 use Rattle.scheduler.specs.Tests.{or-right}
+use Rattle.scheduler.specs.Lists.{each-end}
 use Rattle.scheduler.specs.Together.{Sound}
 use Rattle.scheduler.specs.Answering.{Answers}
 use Rattle.scheduler.specs.Events.{above-length}
@@ -119,6 +121,42 @@ placing-means b v a own ready from lawful q qs asks = rw asks (go (choosing b a 
     go : (f : Choice) → Chooses (enough b a ready (q ∷ qs)) (heldAt b a ready (q ∷ qs)) ready f → Placing b a ready (q ∷ qs) (fitChosen b a f)
     go noChoice w = never w
     go (chosen t hs) w = subst (λ (l : List Held). Placing b a ready (q ∷ qs) (fitted b a (spanTogether a l) t (entriesOf a l))) (sym (w .1)) (held t (w .0))
+
+-- Placing an order without requirements: the span setup + process + teardown at the least start from ready on that suits its own calendar,
+-- or 'chosen, none' because there is none; the choosing instant is ready. No timing, matrix or transport is in it.
+pub time-only-means : (b : Board) (a : Activity) → calendar.valid (a .calendar) ≡ true → (ready : ℕ) → requirementsOf a ≡ []
+    → ((s : ℕ) × (e : ℕ) × (placing b a ready ≡ placed ready s e []) × Fitted b a (spanOf (a .duration .setup) (a .duration)) ready s e [])
+    ⊎ ((placing b a ready ≡ chosenNone ready) × ((x : ℕ) → ready ≤ x → suits (a .resumable) [] (a .calendar) (spanOf (a .duration .setup) (a .duration)) x ≡ false))
+unfolding placing byRequirements timeOnly
+time-only-means b a own ready alone = rw alone (fitted-means b a (spanOf (a .duration .setup) (a .duration)) ready [] each-end own)
+
+-- the closing fit of nothing, on a calendar without windows and blocks, is at once
+module _ (a : Activity) (open-ever : a .calendar .windows .len ≡ 0) (never-shut : a .calendar .blocks .len ≡ 0) (span ready : ℕ) where
+  through : jointEnd (a .calendar ∷ []) ready span ≡ at (ready + span)
+  through = straight (a .calendar) ready span open-ever never-shut
+
+  at-once : (resumable : Bool) → suits resumable [] (a .calendar) span ready ≡ true
+  unfolding suits startsAll freeToEnd allFree fitsAll allStart
+  at-once true = rw through refl
+  at-once false = fits-is (a .calendar) ready (ready + span) (record { window = inl open-ever; blocks = λ k l. absurd (omega (arith, never-shut)) })
+
+  ends-then : (resumable : Bool) → endOf resumable [] (a .calendar) span ready ≡ at (ready + span)
+  unfolding endOf
+  ends-then true = through
+  ends-then false = refl
+
+  plainly : (resumable : Bool) → started resumable [] a span ready [] (fitting resumable [] (a .calendar) span ready) ≡ placed ready ready (ready + span) []
+  unfolding started ended fitting
+  plainly resumable =
+      ap (started resumable [] a span ready []) (least-is (suits resumable [] (a .calendar) span) ready _ ready (record { low = omega arith; high = omega arith; holds = at-once resumable; first = λ x l m. absurd (omega arith) }))
+      ∙ ap (ended ready ready []) (ends-then resumable)
+
+-- without a calendar it starts at ready
+pub time-only-plain : (b : Board) (a : Activity) → a .calendar .windows .len ≡ 0 → a .calendar .blocks .len ≡ 0 → (ready : ℕ) → requirementsOf a ≡ []
+    → placing b a ready ≡ placed ready ready (ready + spanOf (a .duration .setup) (a .duration)) []
+unfolding placing byRequirements timeOnly fitted
+time-only-plain b a open-ever never-shut ready alone =
+    rw alone (plainly a open-ever never-shut (spanOf (a .duration .setup) (a .duration)) ready (a .resumable))
 
 -- Placing writes no slate entry beyond those it reports, and none at all without a placement.
 pub slate-rest : (t s e : ℕ) (es : List Entry) (slate : List (List ℕ)) → drop (length es) (slateAfter (placed t s e es) slate) ≡ drop (length es) slate

@@ -12,7 +12,7 @@ use Rattle.calendar.specs.Fits.{fits}
 use Rattle.calendar.specs.Work.{jointEnd}
 use Rattle.timeline.specs.Bookings.{bookingsTo}
 use Rattle.timeline.specs.Valid.{valid}
-use Rattle.timeline.specs.Book.{diary}
+use Rattle.timeline.specs.Diary.{diary}
 use Rattle.timeline.specs.Free.{load}
 use Rattle.timeline.specs.Earliest.{freeOn, fitsAt}
 use Rattle.timeline.proofs.Loading.{free-yes}

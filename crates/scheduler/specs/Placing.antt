@@ -1,9 +1,10 @@
 -- The reply of placing, and the slate afterwards.
-use Prim.Native.Nat.{ℕ, zero, suc}
+use Prim.Native.Nat.{ℕ}
 use mathlib.Core.Bool.{Bool, not, _||_, cond}
 use mathlib.Core.List.{List, [], _∷_, _++_, map}
 use lib.ListN.{length, drop}
 use lib.Dec.{ltb}
+use Rattle.calendar.specs.Refusals.{refusedOr}
 use Rattle.calendar.specs.Search.{Found, nothing, at}
 use Rattle.calendar.specs.Valid as calendar
 use Rattle.activity.specs.declared.ResourceRequirement.{ResourceRequirement}
@@ -56,10 +57,6 @@ byRequirements (q ∷ qs) alone held = held
 unfoldable pub placing : Board → Activity → ℕ → Reply
 placing b a ready = byRequirements (requirementsOf a) (timeOnly b a ready) (fitChosen b a (choosing b a ready))
 
-unfoldable pub refusedOr : ℕ → Reply → Reply
-refusedOr zero reply = reply
-refusedOr (suc n) reply = refused (suc n)
-
 -- 15 a board or an own calendar that breaks the rules; 7 a slate under 24 entries; then the order's refusals: 5, 1, 6, 3, 8
 unfoldable pub placeRefusal : Board → Activity → ℕ → ℕ → ℕ
 placeRefusal b a ready slate =
@@ -68,7 +65,7 @@ placeRefusal b a ready slate =
 
 -- what placing replies, the slate having so many entries
 unfoldable pub placeReply : Board → Activity → ℕ → ℕ → Reply
-placeReply b a ready slate = refusedOr (placeRefusal b a ready slate) (placing b a (readyOf (a .release) ready))
+placeReply b a ready slate = refusedOr refused (placeRefusal b a ready slate) (placing b a (readyOf (a .release) ready))
 
 -- an entry on the slate: number, setup, units, companion 0 or 1
 unfoldable pub rowOf : Entry → List ℕ
@@ -88,9 +85,9 @@ choosingInstant (chosenNone t) = at t
 choosingInstant none = nothing
 choosingInstant (refused n) = nothing
 
--- a refusal's number, 0 where nothing is refused
-unfoldable pub refusalOf : Reply → ℕ
-refusalOf (placed t s e es) = 0
-refusalOf (chosenNone t) = 0
-refusalOf none = 0
-refusalOf (refused n) = n
+-- the number with which a reply refuses, nothing where it does not
+unfoldable pub refusalOf : Reply → Found
+refusalOf (placed t s e es) = nothing
+refusalOf (chosenNone t) = nothing
+refusalOf none = nothing
+refusalOf (refused n) = at n

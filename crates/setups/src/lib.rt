@@ -7,7 +7,8 @@ ghost use mathlib.Core.Bool.{true};
 ghost use Prim.Native.Nat.{_<_};
 ghost use Rattle.board.specs.Setups.{entryOr, setupMs};
 ghost use Rattle.board.specs.Valid.{lastRight};
-ghost use Rattle.board.specs.Transport.{greatest, anywhere};
+ghost use Rattle.board.specs.Transport.{greatest};
+ghost use Rattle.board.specs.Places.{anywhere};
 
 // The value of an entry, and another where it is absent.
 fn entry_or(ms: i64, other: u64) -> u64

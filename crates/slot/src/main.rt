@@ -1,7 +1,7 @@
 // The program `slot` (01): reads records from standard input and writes what they print. It only reads and writes; what a record
 // does is in `records`.
-use records::Line;
 use records::Turn;
+use slot_text::Line;
 use streams::Input;
 use timeline::ResourceTimeline;
 ghost use Prim.Native.Nat.{_+_, _≤_};
@@ -19,7 +19,7 @@ fn print(line: Line, out: &mut [u8; 65536], used: usize) -> usize
     requires { ⌜ used + 46 ≤ 65536 ⌝ }
     ensures { λ r. ⌜ r ≤ 65536 ⌝ }
 {
-    records::text(line, out, used)
+    slot_text::text(line, out, used)
 }
 
 // Nothing says that the input ends, so the turns count down from a number that no run uses up. A record has at most 21 bytes, a line 46.

@@ -1,4 +1,4 @@
--- Speeds: IEEE 754 binary64 values from 0.25 to 4, and the process time at one.
+-- 01, 'Durations, setups, transport': speeds, IEEE 754 binary64 values from 0.25 to 4, and the process time at one.
 use Prim.Native.Nat.{ℕ, _+_, _*_, _/_, _^_, _≤_}
 use mathlib.Core.Bool.{Bool, false, not, _&&_, cond}
 use lib.IntN.{pos, negsuc}

@@ -174,7 +174,7 @@ fn commit(b: Board, slate: &[[u64; 4]; 32], x: u64, c: Commitment) -> Entered {
 fn committed(t: Tally, b: Board, e: Entered, valid: bool) -> Tally {
     let r = judged(t, (e.refusal == 15) == !valid);
     if e.refusal == 0 {
-        let mut u = judged(r, board::is_valid(e.board));
+        let mut u = judged(r, board_rules::is_valid(e.board));
         u.committed = more(u.committed);
         return u;
     }
@@ -223,7 +223,7 @@ fn run(t: Tally, base: Board, order: Activity, x: u64) -> Tally {
     let w = next(z);
     let ready = any_ready(z);
     let p = place(b, a, ready, &mut slate, w);
-    let valid = board::is_valid(b);
+    let valid = board_rules::is_valid(b);
     let own = a.calendar;
     let right = is_15(p) == !(valid && calendar::is_valid(own));
     let u = judged(told(t, p), right);

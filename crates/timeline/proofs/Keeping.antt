@@ -13,9 +13,9 @@ use Rattle.calendar.specs.Valid as calendar
 use Rattle.timeline.specs.declared.ResourceTimeline.{ResourceTimeline}
 use Rattle.timeline.specs.Bookings.{Booking, bookingsTo, bookings, total}
 use Rattle.timeline.specs.Valid.{before, valid}
-use Rattle.timeline.specs.Book.{insertBooking, cells, latestEnds, diary}
+use Rattle.timeline.specs.Diary.{insertBooking, cells, latestEnds, diary}
 use Rattle.timeline.proofs.Rules.{CellFacts, rules, ruled}
-use Rattle.timeline.proofs.Rows.{none, count, booking-at}
+use Rattle.timeline.proofs.Rows.{none, count, booking-at, pad-at, latest-length}
 
 -- a booking in range that starts at ps or later
 pub record InRange (ps : ℕ) (b : Booking) : Type 0 where
@@ -65,26 +65,10 @@ facts-at (b ∷ bs) ps pl (suc i) (order-on r o) l =
       latest = rw (before-cons (max pl (b .end)) (latestEnds (max pl (b .end)) bs) i) (f .latest);
     }
 
--- zeros behind a list change nothing that is read
-zeros : (n i : ℕ) → _≡_ {A = ℕ} (getD (replicate n 0) i 0) 0
-zeros zero i = refl
-zeros (suc n) zero = refl
-zeros (suc n) (suc i) = zeros n i
-
-cell : (xs : List ℕ) (n i : ℕ) → getD (xs ++ replicate n 0) i 0 ≡ getD xs i 0
-cell [] n i = zeros n i
-cell (x ∷ xs) n zero = refl
-cell (x ∷ xs) n (suc i) = cell xs n i
-
 before-cell : (xs : List ℕ) (n i : ℕ) → before (xs ++ replicate n 0) i ≡ beforeFrom 0 xs i
 unfolding before beforeFrom
 before-cell xs n zero = refl
-before-cell xs n (suc i) = cell xs n i
-
-latest-length : (m : ℕ) (bs : List Booking) → length (latestEnds m bs) ≡ length bs
-unfolding latestEnds
-latest-length m [] = refl
-latest-length m (b ∷ bs) = ap suc (latest-length (max m (b .end)) bs)
+before-cell xs n (suc i) = pad-at xs n i
 
 field : (f : Booking → ℕ) (bs : List Booking) (i : ℕ) → f none ≡ 0 → getD (map f bs) i 0 ≡ f (getD bs i none)
 field f [] i e = sym e
@@ -96,9 +80,9 @@ unfolding bookingsTo
 rows bs zero l = refl
 rows bs (suc n) l =
     let k = 64 - length (starts bs) in
-    let s = cell (starts bs) (64 - length (starts bs)) n ∙ field (λ b. b .start) bs n refl in
-    let e = cell (ends bs) (64 - length (ends bs)) n ∙ field (λ b. b .end) bs n refl in
-    let u = cell (unitsOf bs) (64 - length (unitsOf bs)) n ∙ field (λ b. b .units) bs n refl in
+    let s = pad-at (starts bs) (64 - length (starts bs)) n ∙ field (λ b. b .start) bs n refl in
+    let e = pad-at (ends bs) (64 - length (ends bs)) n ∙ field (λ b. b .end) bs n refl in
+    let u = pad-at (unitsOf bs) (64 - length (unitsOf bs)) n ∙ field (λ b. b .units) bs n refl in
     rw (rows bs n (omega arith), s, e, u) (sym (take-suc bs n none l))
 
 -- the bookings of the diary are the list
@@ -118,18 +102,18 @@ diary-keeps capacity c bs v some few room o =
       filled = λ i l.
           let f = facts-at bs 0 0 i o l in
           rw (
-            cell (starts bs) (64 - length (starts bs)) i,
-            cell (ends bs) (64 - length (ends bs)) i,
-            cell (unitsOf bs) (64 - length (unitsOf bs)) i,
-            cell (latestEnds 0 bs) (64 - length (latestEnds 0 bs)) i,
+            pad-at (starts bs) (64 - length (starts bs)) i,
+            pad-at (ends bs) (64 - length (ends bs)) i,
+            pad-at (unitsOf bs) (64 - length (unitsOf bs)) i,
+            pad-at (latestEnds 0 bs) (64 - length (latestEnds 0 bs)) i,
             before-cell (starts bs) (64 - length (starts bs)) i,
             before-cell (latestEnds 0 bs) (64 - length (latestEnds 0 bs)) i,
           ) f;
       empty = λ i g l. record {
-        starts0 = cell (starts bs) (64 - length (starts bs)) i ∙ List·getD-eq-default (starts bs) 0 {n = i} (rw (length-map bs (λ b. b .start)) g);
-        ends0 = cell (ends bs) (64 - length (ends bs)) i ∙ List·getD-eq-default (ends bs) 0 {n = i} (rw (length-map bs (λ b. b .end)) g);
-        units0 = cell (unitsOf bs) (64 - length (unitsOf bs)) i ∙ List·getD-eq-default (unitsOf bs) 0 {n = i} (rw (length-map bs (λ b. b .units)) g);
-        latest0 = cell (latestEnds 0 bs) (64 - length (latestEnds 0 bs)) i ∙ List·getD-eq-default (latestEnds 0 bs) 0 {n = i} (rw (latest-length 0 bs) g);
+        starts0 = pad-at (starts bs) (64 - length (starts bs)) i ∙ List·getD-eq-default (starts bs) 0 {n = i} (rw (length-map bs (λ b. b .start)) g);
+        ends0 = pad-at (ends bs) (64 - length (ends bs)) i ∙ List·getD-eq-default (ends bs) 0 {n = i} (rw (length-map bs (λ b. b .end)) g);
+        units0 = pad-at (unitsOf bs) (64 - length (unitsOf bs)) i ∙ List·getD-eq-default (unitsOf bs) 0 {n = i} (rw (length-map bs (λ b. b .units)) g);
+        latest0 = pad-at (latestEnds 0 bs) (64 - length (latestEnds 0 bs)) i ∙ List·getD-eq-default (latestEnds 0 bs) 0 {n = i} (rw (latest-length 0 bs) g);
       };
       sum = ap total (sym (bookings-diary capacity c bs));
     })

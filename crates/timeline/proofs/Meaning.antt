@@ -50,7 +50,7 @@ module _ (t : ResourceTimeline) (v : valid t ≡ true) (from span u : ℕ) where
   no-start-means e = none-ever (startsAt t span u) from (lastEvent t) (λ y l. starts-at-back t span u y (last-still t (rules t v) y l)) e
 
 -- without a calendar work runs straight through ..
-straight : (c : Calendar) (s w : ℕ) → c .windows .len ≡ 0 → c .blocks .len ≡ 0 → jointEnd (c ∷ []) s w ≡ at (s + w)
+pub straight : (c : Calendar) (s w : ℕ) → c .windows .len ≡ 0 → c .blocks .len ≡ 0 → jointEnd (c ∷ []) s w ≡ at (s + w)
 unfolding workEnd
 straight c s w a b =
     rw (workEnd, all s) (run-done (joint (c ∷ [])) s w (lastChange (c ∷ []) - s + w) (omega arith) (λ q h l. all q))

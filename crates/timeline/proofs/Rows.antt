@@ -15,7 +15,7 @@ use Rattle.calendar.specs.Basics.{lt-or-ge}
 use Rattle.timeline.specs.declared.ResourceTimeline.{ResourceTimeline}
 use Rattle.timeline.specs.Bookings.{Booking, bookingAt, bookingsTo, bookings, total}
 use Rattle.timeline.specs.Valid.{before, valid}
-use Rattle.timeline.specs.Book.{insertBooking, cells, latestEnds, diary}
+use Rattle.timeline.specs.Diary.{insertBooking, cells, latestEnds, diary}
 use Rattle.columns.specs.Steps.{Place, Opened, Latest}
 use Rattle.timeline.proofs.Rules.{Rules, CellOf, ruled}
 use Rattle.columns.proofs.Shift.{before-pos}
@@ -264,7 +264,8 @@ pad-zero zero k = refl
 pad-zero (suc n) zero = refl
 pad-zero (suc n) (suc k) = pad-zero n k
 
-pad-at : (xs : List ℕ) (n k : ℕ) → getD (xs ++ replicate n 0) k 0 ≡ getD xs k 0
+-- zeros behind a list change nothing that is read
+pub pad-at : (xs : List ℕ) (n k : ℕ) → getD (xs ++ replicate n 0) k 0 ≡ getD xs k 0
 pad-at [] n k = pad-zero n k
 pad-at (x ∷ xs) n zero = refl
 pad-at (x ∷ xs) n (suc k) = pad-at xs n k
@@ -284,7 +285,7 @@ column xs ys n l m q f g =
     (λ (a : n ≤ k). g k a (omega arith) ∙ sym (List·getD-eq-default ys 0 (omega arith)) ∙ sym (pad-at ys (64 - length ys) k))
     (lt-or-ge k n))
 
-latest-length : (m : ℕ) (bs : List Booking) → length (latestEnds m bs) ≡ length bs
+pub latest-length : (m : ℕ) (bs : List Booking) → length (latestEnds m bs) ≡ length bs
 unfolding latestEnds
 latest-length m [] = refl
 latest-length m (b ∷ bs) = ap suc (latest-length _ bs)

@@ -1,8 +1,10 @@
--- The replies of 'Asking a diary'.
-use Prim.Native.Nat.{ℕ, zero, suc, _+_, _^_}
+-- 01, 'Asking a diary': the replies.
+use Prim.Native.Nat.{ℕ, _+_}
 use mathlib.Core.Bool.{not, cond, _||_}
 use mathlib.Core.List.{[], _∷_}
 use lib.Dec.{ltb}
+use Rattle.calendar.specs.Refusals.{refusedOr}
+use Rattle.calendar.specs.Limits.{lastAsked, longestSpan, mostUnits}
 use Rattle.calendar.specs.Search.{Found, nothing, at}
 use Rattle.calendar.specs.Work.{jointEnd}
 use Rattle.timeline.specs.declared.ResourceTimeline.{ResourceTimeline}
@@ -25,24 +27,23 @@ unfoldable pub ended : ℕ → Found → Reply
 ended s nothing = none
 ended s (at e) = fit s e
 
+-- the least start of resumable work, with the work's end
 unfoldable pub resumed : ResourceTimeline → ℕ → Found → Reply
 resumed t work nothing = none
 resumed t work (at s) = ended s (jointEnd (t .calendar ∷ []) s work)
 
 -- 1 from outside 0 to 2^43 or span outside 0 to 2^53; 3 units outside 1 to 10,000; 0 for none
 unfoldable pub askRefusal : ℕ → ℕ → ℕ → ℕ
-askRefusal from span u = cond (ltb (2 ^ 43) from || ltb (2 ^ 53) span) 1 (cond (ltb u 1 || ltb 10000 u) 3 0)
-
-unfoldable pub refusedOr : ℕ → Reply → Reply
-refusedOr zero reply = reply
-refusedOr (suc n) reply = refused (suc n)
+askRefusal from span u = cond (ltb lastAsked from || ltb longestSpan span) 1 (cond (ltb u 1 || ltb mostUnits u) 3 0)
 
 -- 15 before all else; units above the capacity is 'none', for they are never free
 unfoldable pub asked : ResourceTimeline → ℕ → ℕ → ℕ → Reply → Reply
-asked t from span u reply = cond (not (valid t)) (refused 15) (refusedOr (askRefusal from span u) reply)
+asked t from span u reply = cond (not (valid t)) (refused 15) (refusedOr refused (askRefusal from span u) reply)
 
+-- asking for an unbroken span
 abbrev pub fitReply : ResourceTimeline → ℕ → ℕ → ℕ → Reply
 fitReply t from span u = asked t from span u (unbroken span (earliestFit t from span u))
 
+-- asking for resumable work (without a calendar the same: proofs/Meaning.antt, `no-calendar`)
 abbrev pub resumableReply : ResourceTimeline → ℕ → ℕ → ℕ → Reply
 resumableReply t from work u = asked t from work u (resumed t work (earliestResumable t from work u))

@@ -1,4 +1,4 @@
--- The bookings of a diary as a list, in its order.
+-- 01, 'Diary': the bookings of a diary as a list, in its order.
 use Prim.Native.Nat.{ℕ, zero, suc, _+_, _-_, _*_, max}
 use mathlib.Core.List.{List, [], _∷_, _++_}
 use lib.ListN.{getD}

@@ -1,4 +1,4 @@
--- The least start of an unbroken span and of resumable work.
+-- 01, 'Diary': the least start of an unbroken span and of resumable work.
 use Prim.Native.Nat.{ℕ, suc, _+_, _-_, max}
 use mathlib.Core.Bool.{Bool, false, _&&_}
 use mathlib.Core.List.{[], _∷_}

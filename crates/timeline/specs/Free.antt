@@ -1,4 +1,4 @@
--- When units are free over a span.
+-- 01, 'Diary': when units are free over a span.
 use Prim.Native.Nat.{ℕ, zero, suc, _+_, _-_}
 use mathlib.Core.Bool.{Bool, true, _&&_, cond}
 use mathlib.Core.List.{List, [], _∷_}

@@ -1,9 +1,10 @@
--- When a diary keeps the rules: its calendar's, its length, each booking's range, the order by start, the running latest ends, the
+-- 01, 'Diary': when a diary keeps the rules: its calendar's, its length, each booking's range, the order by start, the running latest ends, the
 -- booked total, and 0 in every cell past the length.
 use Prim.Native.Nat.{ℕ, zero, suc, _-_, _^_, max}
 use mathlib.Core.Bool.{Bool, true, _&&_}
 use lib.ListN.{getD}
 use lib.Dec.{leb, ltb, eqb}
+use Rattle.calendar.specs.Limits.{lastInstant, mostUnits, mostBookings}
 use Rattle.timeline.specs.declared.ResourceTimeline.{ResourceTimeline}
 use Rattle.timeline.specs.Bookings.{bookings, total}
 use Rattle.calendar.specs.Valid as calendar
@@ -12,7 +13,7 @@ unfoldable pub use Rattle.columns.specs.Steps.{before}
 -- a filled cell: start, end, units and latest end, after a cell with start ps and latest end pl
 unfoldable pub cellRight : ℕ → ℕ → ℕ → ℕ → ℕ → ℕ → Bool
 cellRight s e u l ps pl =
-    ltb s e && (leb e (2 ^ 42) && (leb 1 u && (leb u 10000 && (leb ps s && eqb l (max pl e)))))
+    ltb s e && (leb e lastInstant && (leb 1 u && (leb u mostUnits && (leb ps s && eqb l (max pl e)))))
 
 -- an empty cell
 unfoldable pub cellEmpty : ℕ → ℕ → ℕ → ℕ → Bool
@@ -38,5 +39,5 @@ emptyFrom t i (suc k) = emptyAt t i && emptyFrom t (suc i) k
 
 unfoldable pub valid : ResourceTimeline → Bool
 valid t =
-    calendar.valid (t .calendar) && (leb 1 (t .capacity) && (ltb (t .capacity) (2 ^ 31) && (leb (t .len) 64
+    calendar.valid (t .calendar) && (leb 1 (t .capacity) && (ltb (t .capacity) (2 ^ 31) && (leb (t .len) mostBookings
     && (filledFrom t 0 (t .len) && (emptyFrom t (t .len) (64 - t .len) && eqb (t .booked) (total (bookings t)))))))

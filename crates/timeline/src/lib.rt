@@ -1,17 +1,18 @@
 // A diary: bookings by start with their running latest ends, a calendar and a capacity (scheduler/timeline.rs; 01, 'Diary' and the
 // replies of 'Booking').
 use calendar::Calendar;
+use calendar::limits::LAST_INSTANT;
+use calendar::limits::MOST_UNITS;
 
 mod insert;
 
 ghost use mathlib.Core.Path.{_≡_};
 ghost use mathlib.Core.Bool.{true};
 ghost use Prim.Native.Nat.{_-_, _^_, _≤_, _<_};
-ghost use Rattle.calendar.specs.Add.{addWindow, addBlock};
 ghost use Rattle.timeline.specs.Bookings.{bookings, total};
 ghost use Rattle.timeline.specs.Valid.{cellRight, cellEmpty, filledFrom, emptyFrom, valid};
-ghost use Rattle.timeline.specs.Book.{capacityOf, newDiary, bookReply, calendarReply, bookRefusal};
-ghost use Rattle.timeline.specs.Reading.{readOf, capacityRead, bookedRead, latestRead};
+ghost use Rattle.timeline.specs.Diary.{capacityOf, newDiary};
+ghost use Rattle.timeline.specs.Book.{bookReply, bookRefusal};
 
 // 01: diary. The booking in cell i is starts[i], ends[i], units[i], and latest[i] the latest end of cells 0 to i (the Rust's
 // latest_end_to). Cells past `len` are 0. No windows and no blocks: a diary without a calendar.
@@ -26,16 +27,10 @@ pub struct ResourceTimeline {
     pub booked: u64,
 }
 
-// What a booking, a window or a block answers: the refusal's number, 0 for none, and the diary, new or unchanged.
+// What a booking answers, and a window or a block of a diary: the refusal's number, 0 for none, and the diary, new or unchanged.
 pub struct Booked {
     pub refusal: u8,
     pub timeline: ResourceTimeline,
-}
-
-// What reading a diary answers: a number, or a refusal's number.
-pub enum Reading {
-    Value(u64),
-    Refused(u8),
 }
 
 // A filled cell keeps the rules, after a cell with start ps and latest end pl.
@@ -45,13 +40,13 @@ fn cell_right(s: u64, e: u64, u: u32, l: u64, ps: u64, pl: u64) -> bool
     if e <= s {
         return false;
     }
-    if e > 4398046511104 {
+    if e > LAST_INSTANT {
         return false;
     }
     if u < 1 {
         return false;
     }
-    if u > 10000 {
+    if u > MOST_UNITS {
         return false;
     }
     if s < ps {
@@ -167,10 +162,10 @@ fn book_refusal(t: ResourceTimeline, start: u64, end: u64, units: u32) -> u8
     if !is_valid(t) {
         return 15;
     }
-    if start > 4398046511104 {
+    if start > LAST_INSTANT {
         return 1;
     }
-    if end > 4398046511104 {
+    if end > LAST_INSTANT {
         return 1;
     }
     if end <= start {
@@ -179,7 +174,7 @@ fn book_refusal(t: ResourceTimeline, start: u64, end: u64, units: u32) -> u8
     if units < 1 {
         return 3;
     }
-    if units > 10000 {
+    if units > MOST_UNITS {
         return 3;
     }
     if t.len >= 64 {
@@ -224,83 +219,5 @@ impl ResourceTimeline {
             refusal: 0,
             timeline: more,
         }
-    }
-
-    // Adds a window to the calendar, or refuses as the calendar does.
-    pub fn add_window(self, start: u64, end: u64) -> Booked
-        ensures { λ r. ⌜ r ≡ calendarReply self (addWindow (self .calendar) start end) ⌝ }
-        ensures { λ r. ⌜ (valid self ≡ true → valid (r .timeline) ≡ true) ⌝ }
-    {
-        if !is_valid(self) {
-            return Booked {
-                refusal: 15,
-                timeline: self,
-            };
-        }
-        let c = self.calendar;
-        let added = c.add_window(start, end);
-        let calendar = added.calendar;
-        let mut t = self;
-        t.calendar = calendar;
-        Booked {
-            refusal: added.refusal,
-            timeline: t,
-        }
-    }
-
-    // Adds a block to the calendar, or refuses as the calendar does.
-    pub fn add_block(self, start: u64, end: u64) -> Booked
-        ensures { λ r. ⌜ r ≡ calendarReply self (addBlock (self .calendar) start end) ⌝ }
-        ensures { λ r. ⌜ (valid self ≡ true → valid (r .timeline) ≡ true) ⌝ }
-    {
-        if !is_valid(self) {
-            return Booked {
-                refusal: 15,
-                timeline: self,
-            };
-        }
-        let c = self.calendar;
-        let added = c.add_block(start, end);
-        let calendar = added.calendar;
-        let mut t = self;
-        t.calendar = calendar;
-        Booked {
-            refusal: added.refusal,
-            timeline: t,
-        }
-    }
-
-    // Units that can be booked at once, or refuses: 15 a diary that breaks the rules.
-    pub fn capacity(self) -> Reading
-        ensures { λ r. ⌜ readOf r ≡ capacityRead self ⌝ }
-    {
-        if !is_valid(self) {
-            return Reading::Refused(15);
-        }
-        Reading::Value(self.capacity as u64)
-    }
-
-    // The booked total, or refuses: 15 a diary that breaks the rules.
-    pub fn booked_ms(self) -> Reading
-        ensures { λ r. ⌜ readOf r ≡ bookedRead self ⌝ }
-    {
-        if !is_valid(self) {
-            return Reading::Refused(15);
-        }
-        Reading::Value(self.booked)
-    }
-
-    // The latest end, 0 where there is no booking, or refuses: 15 a diary that breaks the rules.
-    pub fn latest_end(self) -> Reading
-        ensures { λ r. ⌜ readOf r ≡ latestRead self ⌝ }
-    {
-        if !is_valid(self) {
-            return Reading::Refused(15);
-        }
-        let len = self.len;
-        if len == 0 {
-            return Reading::Value(0);
-        }
-        Reading::Value(self.latest[len - 1])
     }
 }

@@ -1,12 +1,12 @@
 // Several diaries together: the least start at which each has its units free (the Rust's `with_companions`; 01, 'Choosing').
-use asks::core::Start;
+use earliest::Start;
 use joint::WorkEnd;
 use timeline::ResourceTimeline;
 ghost use mathlib.Core.Path.{_≡_};
 ghost use mathlib.Core.Bool.{true};
 ghost use Prim.Native.Nat.{_^_, _≤_, _<_};
 ghost use Rattle.timeline.specs.Valid.{valid};
-ghost use Rattle.asks.specs.Steps.{startOf};
+ghost use Rattle.earliest.specs.Steps.{startOf};
 ghost use Rattle.scheduler.specs.Alone.{earliestOf};
 ghost use Rattle.scheduler.specs.Shares.{startOn, sharesTo, Wanted};
 ghost use Rattle.scheduler.specs.Asking.{nextAsked};
@@ -24,14 +24,14 @@ pub fn start_on(t: ResourceTimeline, resumable: bool, span: u64, units: u32, fro
     ensures { λ r. ⌜ startOf r ≡ startOn resumable span (record { timeline = t; units = units }) from ⌝ }
 {
     if resumable {
-        let r = asks::core::earliest_resumable(t, from, span, units);
+        let r = earliest::earliest_resumable(t, from, span, units);
         let end = r.end;
         return match end {
             WorkEnd::At(_) => Start::At(r.start),
             WorkEnd::Nothing => Start::Nothing,
         };
     }
-    asks::core::earliest_fit(t, from, span, units)
+    earliest::earliest_fit(t, from, span, units)
 }
 
 // The diary to ask after the i-th: the next, and the first again where the start has moved on past those in front.

@@ -2,7 +2,7 @@
 use Rattle.alone.proofs.with_companions.Statement.{statement}
 use Rattle.alone.proofs.with_companions.Tie as tie
 use mathlib.Core.Path.{refl, _∙_}
-use Rattle.asks.specs.Steps.{startOf}
+use Rattle.earliest.specs.Steps.{startOf}
 use borrow.Author.Tests.{not-true, not-false}
 
 returns : tie.Need-returns

@@ -10,7 +10,7 @@ use lib.ListN.{getD, length, length-map}
 use Rattle.board.proofs.Facts.{rules}
 use Rattle.board.proofs.Meaning.{resource-of}
 use Rattle.activity.proofs.Judging.{accepted}
-use Rattle.asks.specs.Steps.{startOf}
+use Rattle.earliest.specs.Steps.{startOf}
 use borrow.Author.Tests.{not-false}
 use Rattle.alone.proofs.Seating.{seated-start, seated-wanted}
 use Rattle.answering.specs.Tables.{foundAt, requirementAt, Kept}

@@ -5,7 +5,7 @@ use Rattle.answering.proofs.noted.Tie as tie
 use mathlib.Core.Path.{refl, ap}
 use mathlib.Core.Logic.{⊎-elim}
 use lib.ListN.{set}
-use Rattle.asks.specs.Steps.{startOf}
+use Rattle.earliest.specs.Steps.{startOf}
 use Rattle.answering.specs.Tables.{numberOf}
 
 mul-next : tie.Need-mul-next

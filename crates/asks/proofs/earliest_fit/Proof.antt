@@ -5,8 +5,8 @@ use mathlib.Core.Path.{sym, ap, _∙_}
 use Prim.Native.Nat.{_-_}
 use native.Mathlib.Omega.{arith}
 use Rattle.asks.specs.Answers.{replyOf}
-use Rattle.asks.specs.Steps.{startOf}
-use Rattle.asks.proofs.Finding.{asked-15, asked-refused, asked-reply, lawful, fit-range, unbroken-at, unbroken-none}
+use Rattle.earliest.specs.Steps.{startOf}
+use Rattle.earliest.proofs.Finding.{asked-15, asked-refused, asked-reply, lawful, fit-range, unbroken-at, unbroken-none}
 use Rattle.asks.proofs.earliest_fit.Statement.{statement}
 use Rattle.asks.proofs.earliest_fit.Tie as tie
 

@@ -5,7 +5,7 @@ use mathlib.Core.Path.{sym, ap, _∙_}
 use Prim.Native.Nat.{_-_}
 use Rattle.joint.specs.Layout.{foundOf}
 use Rattle.asks.specs.Answers.{replyOf}
-use Rattle.asks.proofs.Finding.{asked-15, asked-refused, asked-reply, lawful, ended-at, ended-none}
+use Rattle.earliest.proofs.Finding.{asked-15, asked-refused, asked-reply, lawful, ended-at, ended-none}
 use Rattle.asks.proofs.earliest_resumable.Statement.{statement}
 use Rattle.asks.proofs.earliest_resumable.Tie as tie
 

@@ -1,7 +1,7 @@
 -- `board_queries::record` meets its contract: the four ways in which a record is read.
 use borrow.Author.Needs.{needs}
 use native.Mathlib.Omega.{arith}
-use Rattle.board_records.specs.Bodies.{byte}
+use Rattle.bodies.specs.Bodies.{byte}
 use mathlib.Core.Path.{refl}
 use Prim.Native.Nat.{_+_, _-_}
 use Rattle.board_queries.proofs.Asking.{told-at, ends-at, record-room, ask-room, turn-none, turn-unknown, turn-told, turn-asked}

@@ -4,7 +4,7 @@ use native.Mathlib.Omega.{arith}
 use mathlib.Core.Path.{_∙_}
 use Prim.Native.Nat.{_-_}
 use Rattle.board_queries.specs.Asks.{askLen}
-use Rattle.board_records.proofs.Lengths.{whole-cut, whole-there, body-le}
+use Rattle.bodies.proofs.Lengths.{whole-cut, whole-there, body-le}
 use Rattle.board_queries.proofs.Asking.{run-record, run-ask}
 use Rattle.board_queries.proofs.run_len.Statement.{statement}
 use Rattle.board_queries.proofs.run_len.Tie as tie

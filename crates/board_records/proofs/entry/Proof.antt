@@ -2,7 +2,7 @@
 use borrow.Author.Needs.{needs}
 use native.Mathlib.Omega.{arith}
 use Prim.Native.Nat.{_-_}
-use Rattle.board_records.proofs.Lengths.{is-17, is-18, nineteen-twenty, ten}
+use Rattle.bodies.proofs.Lengths.{is-17, is-18, nineteen-twenty, ten}
 use Rattle.board_records.proofs.Bits.{back}
 use Rattle.board_records.proofs.Doing.{enters-matrix, enters-pair, enters-first, enters-transport}
 use Rattle.board_records.proofs.entry.Statement.{statement}

@@ -2,8 +2,7 @@
 use borrow.Author.Needs.{needs}
 use native.Mathlib.Omega.{arith}
 use Prim.Native.Nat.{_-_}
-use Rattle.board_records.proofs.Lengths.{as-in-slot}
-use Rattle.board_records.proofs.Doing.{diary-told}
+use Rattle.board_records.proofs.Doing.{diary-told, as-in-slot}
 use Rattle.board_records.proofs.on_diary.Statement.{statement}
 use Rattle.board_records.proofs.on_diary.Tie as tie
 

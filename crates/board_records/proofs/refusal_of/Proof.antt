@@ -3,7 +3,7 @@ use borrow.Author.Needs.{needs}
 use mathlib.Core.Path.{sym, ap}
 use Prim.Native.Nat.{_-_}
 use Rattle.board_records.specs.Records.{refusalOf}
-use Rattle.records.specs.Lines.{lineOf}
+use Rattle.slot_text.specs.Lines.{lineOf}
 use Rattle.board_records.proofs.refusal_of.Statement.{statement}
 use Rattle.board_records.proofs.refusal_of.Tie as tie
 

@@ -2,7 +2,7 @@
 use borrow.Author.Needs.{needs}
 use native.Mathlib.Omega.{arith}
 use Prim.Native.Nat.{_-_}
-use Rattle.board_records.proofs.Lengths.{is-21, from-seventeen, of-fixed, of-resource, from-one}
+use Rattle.bodies.proofs.Lengths.{is-21, from-seventeen, of-fixed, of-resource, from-one}
 use Rattle.board_records.proofs.Doing.{steps-diary, steps-add, steps-entry, steps-order, steps-part}
 use Rattle.board_records.proofs.step.Statement.{statement}
 use Rattle.board_records.proofs.step.Tie as tie

@@ -5,7 +5,7 @@ use Rattle.committing.proofs.commit.Tie as tie
 use borrow.Author.Tests.{not-true, not-false, ne-eqb}
 use mathlib.Core.Path.{sym, _∙_}
 use Rattle.scheduler.specs.Committing.{linesOf}
-use Rattle.committing.proofs.Refusing.{reply-rules, reply-none, reply-count, reply-refused, reply-taken, all-fine}
+use Rattle.commit_checks.proofs.Refusing.{reply-rules, reply-none, reply-count, reply-refused, reply-taken, all-fine}
 
 places-of-requires : tie.Need-places-of-requires
 places-of-requires c κs = search needs

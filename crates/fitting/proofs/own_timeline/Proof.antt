@@ -3,7 +3,7 @@ use borrow.Author.Needs.{needs}
 use Rattle.fitting.proofs.own_timeline.Statement.{statement}
 use Rattle.fitting.proofs.own_timeline.Tie as tie
 use mathlib.Core.Path.{refl}
-use Rattle.timeline.specs.Book.{diary, capacityOf}
+use Rattle.timeline.specs.Diary.{diary, capacityOf}
 
 new-requires : tie.Need-new-requires
 new-requires c κs = search needs

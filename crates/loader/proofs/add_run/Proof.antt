@@ -51,9 +51,9 @@ use Rattle.calendar.specs.declared.Calendar.{Calendar}
 use Rattle.calendar.specs.declared.Added.{Added}
 use Rattle.loader.specs.Run.{addRun}
 use Rattle.loader.specs.Steps.{begunReply, stepReply, onward, onward-begun, onward-none, onward-refused, onward-step}
-use Rattle.loader.specs.Enter.{enters}
-use Rattle.loader.specs.Plainly.{calls-plain}
-use Rattle.loader.specs.Turns.{Below, again, whiles}
+use Rattle.loader.proofs.Enter.{enters}
+use Rattle.loader.proofs.Plainly.{calls-plain}
+use Rattle.loader.proofs.Turns.{Below, again, whiles}
 use Rattle.loader.proofs.TimeWindow as T
 use Rattle.loader.proofs.TimeWindow.Laws as T′
 use Rattle.calendar.proofs.Calendar as K

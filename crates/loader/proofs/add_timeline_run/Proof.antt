@@ -46,8 +46,8 @@ use Rattle.timeline.specs.declared.Booked.{Booked}
 use Rattle.timeline.specs.Book.{calendarReply}
 use Rattle.loader.specs.declared.TimeWindow.{TimeWindow}
 use Rattle.loader.specs.Run.{addRun, addTimelineRun}
-use Rattle.loader.specs.Enter.{enters}
-use Rattle.loader.specs.Plainly.{calls-plain}
+use Rattle.loader.proofs.Enter.{enters}
+use Rattle.loader.proofs.Plainly.{calls-plain}
 use Rattle.loader.proofs.TimeWindow as T
 use Rattle.loader.proofs.TimeWindow.Laws as T′
 use Rattle.calendar.proofs.Calendar as K

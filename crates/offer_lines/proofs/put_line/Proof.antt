@@ -2,7 +2,7 @@
 use borrow.Author.Needs.{needs}
 use native.Mathlib.Omega.{arith}
 use Rattle.streams.specs.Laws.{put-none}
-use Rattle.records.specs.Lines as slot
+use Rattle.slot_text.specs.Lines as slot
 use Rattle.offer_lines.specs.Lines.{lineText}
 use Rattle.offer_lines.proofs.put_line.Statement.{statement}
 use Rattle.offer_lines.proofs.put_line.Tie as tie

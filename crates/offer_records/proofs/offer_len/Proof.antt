@@ -2,7 +2,7 @@
 use borrow.Author.Needs.{needs}
 use native.Mathlib.Omega.{arith}
 use Prim.Native.Nat.{_-_}
-use Rattle.board_records.proofs.Lengths.{whole-cut, whole-there, body-le}
+use Rattle.bodies.proofs.Lengths.{whole-cut, whole-there, body-le}
 use Rattle.offer_records.proofs.Lengths.{of-placing, of-committing, of-other}
 use Rattle.offer_records.proofs.offer_len.Statement.{statement}
 use Rattle.offer_records.proofs.offer_len.Tie as tie

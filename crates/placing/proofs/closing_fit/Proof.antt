@@ -8,9 +8,10 @@ use Rattle.fitting.proofs.fit_resumable.Reads as fit-resumable-reads
 use Rattle.fitting.proofs.fit_unbroken.Reads as fit-unbroken-reads
 use mathlib.Core.Path.{refl, sym, ap, _∙_}
 use native.Mathlib.Omega.{arith}
-use Rattle.asks.specs.Steps.{startOf}
+use Rattle.earliest.specs.Steps.{startOf}
 use Rattle.fitting.specs.Jointly.{fitOf}
-use Rattle.placing.specs.Told.{unbroken, closing}
+use Rattle.timeline.specs.Ask.{unbroken}
+use Rattle.placing.specs.Steps.{closing}
 use Rattle.scheduler.specs.Shares.{sharesTo}
 use Rattle.scheduler.specs.Latest.{wanted-sound}
 use Rattle.placing.proofs.Telling.{start-soon}

@@ -4,7 +4,7 @@ use Rattle.placing.proofs.fitted.Statement.{statement}
 use Rattle.placing.proofs.fitted.Tie as tie
 use Rattle.placing.proofs.fitted.Reads as reads
 use Rattle.placing.proofs.fitted.Lts as lts
-use Rattle.entries.proofs.closing_of.Reads as closing-of-reads
+use Rattle.closing.proofs.closing_of.Reads as closing-of-reads
 use Rattle.placing.proofs.closing_fit.Reads as closing-fit-reads
 use Rattle.placing.proofs.write.Reads as write-reads
 use mathlib.Core.Path.{ap, _∙_}

@@ -4,11 +4,11 @@ use Rattle.placing.proofs.order_refusal.Statement.{statement}
 use Rattle.placing.proofs.order_refusal.Tie as tie
 use Rattle.placing.proofs.order_refusal.Reads as reads
 use Rattle.placing.proofs.order_refusal.Lts as lts
-use Rattle.activity.proofs.core.refusal.Reads as refusal-reads
+use Rattle.order_checks.proofs.refusal.Reads as refusal-reads
 use Rattle.calendar.proofs.is_valid.Reads as is-valid-reads
 use mathlib.Core.Path.{refl, sym, _∙_}
 use borrow.Author.Tests.{not-true, not-false, lt-ltb, le-ltb}
-use Rattle.placing.specs.Told.{orderRefusal}
+use Rattle.placing.specs.Steps.{orderRefusal}
 
 -- src/lib.rt:86:9
 is-valid-requires : tie.Need-is-valid-requires

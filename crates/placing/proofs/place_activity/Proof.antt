@@ -5,7 +5,7 @@ use Rattle.placing.proofs.place_activity.Tie as tie
 use Rattle.placing.proofs.place_activity.Reads as reads
 use Rattle.placing.proofs.place_activity.Lts as lts
 use Rattle.activity.proofs.core.ready_of.Reads as ready-of-reads
-use Rattle.board.proofs.core.places_of.Reads as places-of-reads
+use Rattle.board_rules.proofs.places_of.Reads as places-of-reads
 use Rattle.choosing.proofs.choose.Reads as choose-reads
 use Rattle.entries.proofs.entries_of.Reads as entries-of-reads
 use Rattle.entries.proofs.no_entries.Reads as no-entries-reads
@@ -23,7 +23,8 @@ use Rattle.board.specs.Valid.{valid}
 use Rattle.scheduler.specs.Alone.{spanOf}
 use Rattle.scheduler.specs.Choosing.{noChoice, chosen, choosing}
 use Rattle.scheduler.specs.Placing.{slateAfter}
-use Rattle.placing.specs.Told.{orderRefusal, told}
+use Rattle.placing.specs.Steps.{orderRefusal}
+use Rattle.placing.specs.Told.{told}
 use Rattle.placing.proofs.Telling.{order-right}
 use Rattle.placing.proofs.Entering.{entered}
 use Rattle.placing.proofs.Replying.{ready-lawful, reply-15, reply-refused, reply-alone, reply-none, reply-held, first-one, chosen-none, chosen-held}

@@ -2,7 +2,7 @@
 use borrow.Author.Needs.{needs}
 use mathlib.Core.Path.{sym, ap}
 use Rattle.asks.specs.Answers.{replyOf}
-use Rattle.records.specs.Lines.{line, lineOf}
+use Rattle.slot_text.specs.Lines.{line, lineOf}
 use Rattle.records.proofs.line_of.Statement.{statement}
 use Rattle.records.proofs.line_of.Tie as tie
 

@@ -2,7 +2,7 @@
 use borrow.Author.Needs.{needs}
 use native.Mathlib.Omega.{arith}
 use Rattle.records.proofs.Doing.{turn-ends, turn-none, turn-unknown, turn-cut, turn-goes}
-use Rattle.records.specs.Lines.{lineOf}
+use Rattle.slot_text.specs.Lines.{lineOf}
 use Rattle.records.proofs.record.Statement.{statement}
 use Rattle.records.proofs.record.Tie as tie
 

@@ -5,7 +5,7 @@ use Rattle.records.proofs.Doing.{too-large, renewed}
 use mathlib.Core.Path.{ap, _∙_}
 use mir.Syntax.{w32}
 use mir.ValLaws.{toZ-pos}
-use Rattle.timeline.specs.Book.{newDiary}
+use Rattle.timeline.specs.Diary.{newDiary}
 use Rattle.records.proofs.renew.Statement.{statement}
 use Rattle.records.proofs.renew.Tie as tie
 

@@ -4,8 +4,10 @@ use mathlib.Core.Logic.{⊎-elim}
 use mathlib.Core.Path.{_≡_, refl}
 use Prim.Native.Nat.{_-_, _≤_}
 use native.Mathlib.Omega.{arith}
-use Rattle.board.specs.Transport.{greatest, anywhere}
-use Rattle.board.proofs.Masks.{bit-yes, bit-no, greatest-hit, greatest-miss}
+use Rattle.board.specs.Transport.{greatest}
+use Rattle.board.specs.Places.{anywhere}
+use Rattle.calendar.specs.Sets.{bit-yes, bit-no}
+use Rattle.board.proofs.Masks.{greatest-hit, greatest-miss}
 use Rattle.setups.proofs.transport_between.Statement.{statement}
 use Rattle.setups.proofs.transport_between.Tie as tie
 

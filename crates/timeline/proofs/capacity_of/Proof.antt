@@ -10,7 +10,7 @@ use mir.Syntax.{w32}
 use mir.Val.{SFits}
 use mir.ValLaws.{toZ-ofZ}
 use borrow.Author.Tests.{ltb-true, ltb-false}
-use Rattle.timeline.specs.Book.{capacityOf}
+use Rattle.timeline.specs.Diary.{capacityOf}
 use Rattle.timeline.proofs.capacity_of.Statement.{statement}
 use Rattle.timeline.proofs.capacity_of.Tie as tie
 

@@ -5,7 +5,7 @@ use mathlib.Core.Path.{sym, ap, _∙_}
 use Prim.Native.Nat.{_+_, _-_, _*_, _^_}
 use native.Mathlib.Omega.{arith}
 use borrow.Author.Needs.{needs}
-use Rattle.asks.specs.Steps.{startOf}
+use Rattle.earliest.specs.Steps.{startOf}
 use Rattle.scheduler.specs.Asking.{Asked, asked-start, asked-on, asked-none, asked-less, asked-all}
 
 abbrev Inv-loop : tie.InvT-loop

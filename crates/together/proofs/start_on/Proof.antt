@@ -5,7 +5,7 @@ use Rattle.together.proofs.start_on.Tie as tie
 use mathlib.Core.Path.{sym, ap, _∙_}
 use Rattle.calendar.specs.Search.{Found}
 use Rattle.joint.specs.Layout.{foundOf}
-use Rattle.asks.specs.Steps.{startOf}
+use Rattle.earliest.specs.Steps.{startOf}
 use Rattle.timeline.specs.Ask.{ended}
 use Rattle.scheduler.specs.Shares.{startOn}
 use Rattle.together.proofs.Starting.{startIn, resumable-start, start-some, start-none}

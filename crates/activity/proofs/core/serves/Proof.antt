@@ -8,8 +8,9 @@ use lib.Bits.{bitAnd}
 use lib.Dec.{eqb}
 use Rattle.calendar.specs.Basics.{and-true, and-false}
 use Rattle.activity.specs.declared.ResourceRequirement.{ResourceRequirement}
-use Rattle.activity.specs.Serving.{bit, candidate, serves}
-use Rattle.activity.proofs.Masks.{covers-yes, covers-no, bit-and}
+use Rattle.activity.specs.Serving.{candidate, serves}
+use Rattle.activity.proofs.Masks.{covers-yes, covers-no}
+use Rattle.calendar.specs.Sets.{bit, bit-and}
 use Rattle.activity.proofs.core.serves.Statement.{statement}
 use Rattle.activity.proofs.core.serves.Tie as tie
 

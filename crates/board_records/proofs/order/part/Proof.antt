@@ -2,7 +2,7 @@
 use borrow.Author.Needs.{needs}
 use native.Mathlib.Omega.{arith}
 use Prim.Native.Nat.{_-_}
-use Rattle.board_records.proofs.Lengths.{is-22, nine}
+use Rattle.bodies.proofs.Lengths.{is-22, nine}
 use Rattle.board_records.proofs.Ordering.{part-more, part-above, part-timed}
 use Rattle.board_records.proofs.order.part.Statement.{statement}
 use Rattle.board_records.proofs.order.part.Tie as tie

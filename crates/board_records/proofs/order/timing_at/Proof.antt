@@ -2,7 +2,7 @@
 use borrow.Author.Needs.{needs}
 use native.Mathlib.Omega.{arith}
 use Prim.Native.Nat.{_-_}
-use Rattle.board_records.proofs.Lengths.{is-23, is-24}
+use Rattle.bodies.proofs.Lengths.{is-23, is-24}
 use Rattle.board_records.proofs.Ordering.{speed-is, own-is}
 use Rattle.board_records.proofs.order.timing_at.Statement.{statement}
 use Rattle.board_records.proofs.order.timing_at.Tie as tie

@@ -13,7 +13,7 @@ use Rattle.calendar.specs.Add.{empty}
 use Rattle.calendar.specs.Valid as calendar
 use Rattle.timeline.specs.Bookings.{bookingsTo, total}
 use Rattle.timeline.specs.Valid.{valid, filledFrom, emptyFrom, cellEmpty}
-use Rattle.timeline.specs.Book.{capacityOf, diary, latestEnds}
+use Rattle.timeline.specs.Diary.{capacityOf, diary, latestEnds}
 use Rattle.timeline.proofs.Rows.{empty-is}
 use Rattle.timeline.proofs.ResourceTimeline.new.Statement.{statement}
 use Rattle.timeline.proofs.ResourceTimeline.new.Tie as tie

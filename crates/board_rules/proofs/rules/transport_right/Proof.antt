@@ -1,0 +1,90 @@
+-- `board_rules::rules::transport_right` meets its contract. The loop: what is left of the cells decides as all of them do.
+use borrow.Author.Needs.{needs}
+use borrow.Author.Tests.{not-true, not-false}
+use mathlib.Core.Bool.{Bool}
+use mathlib.Core.List.{List}
+use mathlib.Core.Path.{_≡_, refl, sym, _∙_}
+use Prim.Native.Nat.{ℕ, _-_, _/_, _%_, _≤_}
+use native.Mathlib.Omega.{arith}
+use lib.Dec.{ltb}
+use lib.ListN.{getD}
+use Rattle.board.specs.Valid.{everyFrom, every, transportCell}
+use Rattle.board.proofs.Every.{every-step, every-end}
+use Rattle.board_rules.proofs.rules.transport_right.Statement.{statement}
+use Rattle.board_rules.proofs.rules.transport_right.Tie as tie
+
+-- the rule of one cell, by the places of the numbers
+abbrev cell : List ℕ → List ℕ → ℕ → Bool
+cell transport places k = transportCell (getD transport k 0) (ltb (getD places (k / 16) 0) 16) (ltb (getD places (k % 16) 0) 16)
+
+abbrev cells : List ℕ → List ℕ → Bool
+cells transport places = every (cell transport places) 256
+
+abbrev Inv-loop : tie.InvT-loop
+Inv-loop transport places k₀ k = (k ≤ 256) × (cells transport places ≡ everyFrom (cell transport places) k (256 - k))
+
+abbrev μ-loop : tie.MeasureT-loop
+μ-loop transport places k₀ k = 256 - k
+
+loop-holds : tie.Need-loop-holds Inv-loop μ-loop
+loop-holds c = (omega arith, refl)
+
+mul-transport-cell : tie.Need-mul-transport-cell Inv-loop μ-loop
+mul-transport-cell c = search needs
+
+element-copy-out-transport-cell : tie.Need-element-copy-out-transport-cell Inv-loop μ-loop
+element-copy-out-transport-cell c = search needs
+
+mul-transport-cell-2 : tie.Need-mul-transport-cell-2 Inv-loop μ-loop
+mul-transport-cell-2 c = search needs
+
+element-copy-out-transport-cell-2 : tie.Need-element-copy-out-transport-cell-2 Inv-loop μ-loop
+element-copy-out-transport-cell-2 c = search needs
+
+mul-transport-cell-3 : tie.Need-mul-transport-cell-3 Inv-loop μ-loop
+mul-transport-cell-3 c = search needs
+
+element-copy-out-transport-cell-3 : tie.Need-element-copy-out-transport-cell-3 Inv-loop μ-loop
+element-copy-out-transport-cell-3 c = search needs
+
+transport-cell-requires : tie.Need-transport-cell-requires Inv-loop μ-loop
+transport-cell-requires c κs = search needs
+
+returns : tie.Need-returns Inv-loop μ-loop
+returns c =
+    let e = sym (c .before .transport-cell .ensures) ∙ not-true _ (c .if1 .taken) in
+    sym (c .before .before .before .before .before .before .loop .inv .1 ∙ every-step _ _ _ (c .before .before .before .before .before .loop-test .taken) ∙ rw e refl)
+
+add-k : tie.Need-add-k Inv-loop μ-loop
+add-k c = search needs
+
+loop-less : tie.Need-loop-less Inv-loop μ-loop
+loop-less c = search needs
+
+loop-again : tie.Need-loop-again Inv-loop μ-loop
+loop-again c =
+    let e = sym (c .before .transport-cell .ensures) ∙ not-false _ (c .if1 .left) in
+    (omega arith, c .before .before .before .before .before .before .loop .inv .1 ∙ every-step _ _ _ (c .before .before .before .before .before .loop-test .taken) ∙ rw e refl)
+
+returns-2 : tie.Need-returns-2 Inv-loop μ-loop
+returns-2 c = sym (c .before .loop .inv .1 ∙ every-end _ _ _ (omega arith))
+
+pub transport-right-spec : {M : Type 1} → statement M
+transport-right-spec =
+    tie.close
+    (tie.spec
+    Inv-loop
+    μ-loop
+    loop-holds
+    mul-transport-cell
+    element-copy-out-transport-cell
+    mul-transport-cell-2
+    element-copy-out-transport-cell-2
+    mul-transport-cell-3
+    element-copy-out-transport-cell-3
+    transport-cell-requires
+    returns
+    add-k
+    loop-less
+    loop-again
+    returns-2)

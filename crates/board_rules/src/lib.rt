@@ -1,0 +1,67 @@
+// Whether a board keeps the rules, and the place of each number on it, in one pass over the board (01, 'Placing', the board's paragraph,
+// and 'Replies': 15).
+use board::Board;
+
+mod rules;
+
+ghost use mathlib.Core.Path.{_≡_};
+ghost use mathlib.Core.Bool.{true};
+ghost use Prim.Native.Nat.{ℕ, _<_};
+ghost use lib.ListN.{getD};
+ghost use Rattle.board.specs.Resources.{lookup};
+ghost use Rattle.board.specs.Valid.{valid};
+ghost use Rattle.board.specs.Places.{placeOf};
+
+// Whether the board keeps the rules; if so, the place of each number on it, 16 for a number that is not there.
+pub struct Places {
+    pub right: bool,
+    pub places: [usize; 16],
+}
+
+pub fn places_of(b: Board) -> Places
+    ensures { λ r. ⌜ r .right ≡ valid b ⌝ }
+    ensures { λ r. ⌜ ((n : ℕ) → n < 16 → valid b ≡ true → getD (r .places) n 0 ≡ placeOf (lookup b n)) ⌝ }
+{
+    let len = b.len;
+    let mut places: [usize; 16] = [16; 16];
+    let wrong = Places {
+        right: false,
+        places: places,
+    };
+    if len > 16 {
+        return wrong;
+    }
+    let mut i: usize = 0;
+    while i < 16 {
+        let r = b.resources[i];
+        if i < len {
+            if !rules::resource_right(r) {
+                return wrong;
+            }
+            let number = r.number as usize;
+            if places[number] < 16 {
+                return wrong;
+            }
+            places[number] = i;
+        } else {
+            if !rules::resource_blank(r) {
+                return wrong;
+            }
+        }
+        i += 1;
+    }
+    let transport = b.transport;
+    let right = rules::transport_right(&transport, &places);
+    Places {
+        right: right,
+        places: places,
+    }
+}
+
+// The board keeps the rules.
+pub fn is_valid(b: Board) -> bool
+    ensures { λ r. ⌜ r ≡ valid b ⌝ }
+{
+    let p = places_of(b);
+    p.right
+}

@@ -1,0 +1,25 @@
+-- `bodies::diary_len` meets its contract: by its kind, the length is the definition's.
+use native.Mathlib.Omega.{arith}
+use mathlib.Core.Path.{sym}
+use Prim.Native.Nat.{_-_}
+use Rattle.bodies.proofs.Lengths.{is-1, is-4, two-three, unknown}
+use Rattle.bodies.proofs.diary_len.Statement.{statement}
+use Rattle.bodies.proofs.diary_len.Tie as tie
+
+returns : tie.Need-returns
+returns c = sym (is-1 _ (omega arith))
+
+returns-2 : tie.Need-returns-2
+returns-2 c = sym (is-4 _ (omega arith))
+
+returns-3 : tie.Need-returns-3
+returns-3 c = sym (two-three _ (omega arith) (omega arith))
+
+returns-4 : tie.Need-returns-4
+returns-4 c = sym (unknown _ (λ e. omega arith) (λ e. omega arith) (λ e. omega arith) (λ e. omega arith) (λ e. omega arith) (λ e. omega arith) (λ e. omega arith) (λ e. omega arith) (λ e. omega arith) (λ e. omega arith) (λ e. omega arith) (λ e. omega arith))
+
+returns-5 : tie.Need-returns-5
+returns-5 c = sym (unknown _ (λ e. omega arith) (λ e. omega arith) (λ e. omega arith) (λ e. omega arith) (λ e. omega arith) (λ e. omega arith) (λ e. omega arith) (λ e. omega arith) (λ e. omega arith) (λ e. omega arith) (λ e. omega arith) (λ e. omega arith))
+
+pub diary-len-spec : {M : Type 1} → statement M
+diary-len-spec = tie.close (tie.spec returns returns-2 returns-3 returns-4 returns-5)

@@ -1,0 +1,25 @@
+-- `bodies::order_len` meets its contract: by its kind, the length is the definition's.
+use native.Mathlib.Omega.{arith}
+use mathlib.Core.Path.{sym}
+use Prim.Native.Nat.{_-_}
+use Rattle.bodies.proofs.Lengths.{is-21, is-22, is-23, is-24, unknown}
+use Rattle.bodies.proofs.order_len.Statement.{statement}
+use Rattle.bodies.proofs.order_len.Tie as tie
+
+returns : tie.Need-returns
+returns c = sym (is-21 _ (omega arith))
+
+returns-2 : tie.Need-returns-2
+returns-2 c = sym (is-22 _ (omega arith))
+
+returns-3 : tie.Need-returns-3
+returns-3 c = sym (is-23 _ (omega arith))
+
+returns-4 : tie.Need-returns-4
+returns-4 c = sym (is-24 _ (omega arith))
+
+returns-5 : tie.Need-returns-5
+returns-5 c = sym (unknown _ (λ e. omega arith) (λ e. omega arith) (λ e. omega arith) (λ e. omega arith) (λ e. omega arith) (λ e. omega arith) (λ e. omega arith) (λ e. omega arith) (λ e. omega arith) (λ e. omega arith) (λ e. omega arith) (λ e. omega arith))
+
+pub order-len-spec : {M : Type 1} → statement M
+order-len-spec = tie.close (tie.spec returns returns-2 returns-3 returns-4 returns-5)

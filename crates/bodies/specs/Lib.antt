@@ -1,0 +1,2 @@
+-- The bodies of records.
+pub mod Bodies

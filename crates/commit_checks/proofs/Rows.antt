@@ -1,0 +1,196 @@
+-- The checks of the rows of a slate, and what they say of its lines.
+use mathlib.Core.Path.{_≡_, refl, sym, ap, _∙_}
+use mathlib.Core.Bool.{Bool, true, false, _&&_, cond}
+use mathlib.Core.List.{List, [], _∷_, _++_, map}
+use mathlib.Core.Logic.{⊎-elim}
+use Prim.Native.Nat.{ℕ, zero, suc, _+_, _-_, _≤_, _<_}
+use native.Mathlib.Omega.{arith}
+use lib.ListN.{length, getD, set, take, replicate, getD-replicate}
+use lib.Dec.{leb, ltb, eqb}
+use lib.Seq.{getD-set-same, getD-set-other}
+use borrow.Author.Tests.{ltb-true, lt-ltb, le-ltb, lt-leb, le-leb, eq-eqb, eqb-true}
+use Rattle.calendar.specs.Basics.{and-split, and-false, same-or-not}
+use Rattle.activity.specs.Check.{every}
+use Rattle.board.specs.declared.Board.{Board}
+use Rattle.board.specs.Resources.{resourceAt, isAt, onBoard}
+use Rattle.board.specs.Valid.{valid}
+use Rattle.board.proofs.Facts.{rules}
+use Rattle.scheduler.specs.Alone.{diaryOf}
+use Rattle.scheduler.specs.Arrays.{take-next}
+use Rattle.scheduler.specs.Committing.{Line, lineOf, linesOf, entriesOn}
+use Rattle.scheduler.specs.Ruled.{diary-at}
+use Rattle.scheduler.specs.Tests.{both-ways}
+use Rattle.alone.specs.Plans.{Known}
+use Rattle.alone.proofs.Knowing.{place-on, number-place}
+use Rattle.commit_checks.specs.Lines.{numbered, metered, roomy, Counted}
+
+-- the lines are the first rows, read one by one
+pub lines-rows : (n : ℕ) (slate : List (List ℕ)) → linesOf n slate ≡ map lineOf (take n slate)
+unfolding linesOf
+lines-rows n slate = refl
+
+every-map : {A B : Type 0} (P : B → Bool) (f : A → B) (xs : List A) → every P (map f xs) ≡ every (λ x. P (f x)) xs
+unfolding every
+every-map P f [] = refl
+every-map P f (x ∷ xs) = ap (λ (q : Bool). P (f x) && q) (every-map P f xs)
+
+-- two tests that agree where a third holds
+every-same : {A : Type 0} (N P Q : A → Bool) (xs : List A) → ((x : A) → N x ≡ true → P x ≡ Q x) → every N xs ≡ true → every P xs ≡ every Q xs
+unfolding every
+every-same N P Q [] h e = refl
+every-same N P Q (x ∷ xs) h e =
+    let w = and-split (N x) (every N xs) e in
+    rw (h x (w .0), every-same N P Q xs h (w .1)) refl
+
+every-both : {A : Type 0} (P Q : A → Bool) (xs : List A) → ((x : A) → P x ≡ Q x) → every P xs ≡ every Q xs
+unfolding every
+every-both P Q [] h = refl
+every-both P Q (x ∷ xs) h = rw (h x, every-both P Q xs h) refl
+
+pub every-at : {A : Type 0} (P : A → Bool) (d : A) (n : ℕ) (xs : List A) → n ≤ length xs → every P (take n xs) ≡ true → (k : ℕ) → k < n → P (getD xs k d) ≡ true
+unfolding every
+every-at P d zero xs l e k m = absurd (omega arith)
+every-at P d (suc n) [] l e k m = absurd (omega arith)
+every-at P d (suc n) (x ∷ xs) l e zero m = and-split (P x) (every P (take n xs)) e .0
+every-at P d (suc n) (x ∷ xs) l e (suc k) m = every-at P d n xs (omega arith) (and-split (P x) (every P (take n xs)) e .1) k (omega arith)
+
+-- one row
+module _ (places row : List ℕ) where
+  pub number-high : 16 ≤ getD row 0 0 → numbered places row ≡ false
+  unfolding numbered lineOf
+  number-high l = rw (le-ltb (getD row 0 0) 16 l) refl
+
+  pub number-off : 16 ≤ getD places (getD row 0 0) 0 → numbered places row ≡ false
+  unfolding numbered lineOf
+  number-off l = rw (le-ltb (getD places (getD row 0 0) 0) 16 l) (and-false (ltb (getD row 0 0) 16))
+
+  pub number-on : getD row 0 0 < 16 → getD places (getD row 0 0) 0 < 16 → numbered places row ≡ true
+  unfolding numbered lineOf
+  number-on l m = rw (lt-ltb (getD row 0 0) 16 l, lt-ltb (getD places (getD row 0 0) 0) 16 m) refl
+
+  pub number-is : numbered places row ≡ true → (getD row 0 0 < 16) × (getD places (getD row 0 0) 0 < 16)
+  unfolding numbered lineOf
+  number-is e =
+      let w = and-split (ltb (getD row 0 0) 16) (ltb (getD places (getD row 0 0) 0) 16) e in
+      (ltb-true (getD row 0 0) 16 (w .0), ltb-true (getD places (getD row 0 0) 0) 16 (w .1))
+
+module _ (row : List ℕ) where
+  pub units-none : getD row 2 0 < 1 → metered row ≡ false
+  unfolding metered lineOf
+  units-none l = rw (lt-leb 1 (getD row 2 0) l) refl
+
+  pub units-many : 10000 < getD row 2 0 → metered row ≡ false
+  unfolding metered lineOf
+  units-many l = rw (lt-leb (getD row 2 0) 10000 l) (and-false (leb 1 (getD row 2 0)))
+
+  pub units-fine : 1 ≤ getD row 2 0 → getD row 2 0 ≤ 10000 → metered row ≡ true
+  unfolding metered lineOf
+  units-fine l m = rw (le-leb 1 (getD row 2 0) l, le-leb (getD row 2 0) 10000 m) refl
+
+module _ (places lens tally row : List ℕ) where
+  pub room-short : 64 < getD lens (getD places (getD row 0 0) 0) 0 + getD tally (getD row 0 0) 0 → roomy places lens tally row ≡ false
+  unfolding roomy lineOf
+  room-short l = lt-leb (getD lens (getD places (getD row 0 0) 0) 0 + getD tally (getD row 0 0) 0) 64 l
+
+  pub room-enough : getD lens (getD places (getD row 0 0) 0) 0 + getD tally (getD row 0 0) 0 ≤ 64 → roomy places lens tally row ≡ true
+  unfolding roomy lineOf
+  room-enough l = le-leb (getD lens (getD places (getD row 0 0) 0) 0 + getD tally (getD row 0 0) 0) 64 l
+
+-- how many name each number: one row more
+entries-more : (k : ℕ) (ls : List Line) (l : Line) → entriesOn k (ls ++ (l ∷ [])) ≡ entriesOn k ls + cond (eqb (l .number) k) 1 0
+unfolding entriesOn
+entries-more k [] l = omega arith
+entries-more k (x ∷ ls) l = omega (arith, entries-more k ls l)
+
+map-more : (rows : List (List ℕ)) (row : List ℕ) → map lineOf (rows ++ (row ∷ [])) ≡ map lineOf rows ++ (lineOf row ∷ [])
+map-more [] row = refl
+map-more (x ∷ rows) row = ap (λ (ls : List Line). lineOf x ∷ ls) (map-more rows row)
+
+lines-next : (slate : List (List ℕ)) (i : ℕ) → i < length slate → linesOf (i + 1) slate ≡ linesOf i slate ++ (lineOf (getD slate i []) ∷ [])
+lines-next slate i l = lines-rows (i + 1) slate ∙ ap (map lineOf) (take-next slate i [] l) ∙ map-more (take i slate) (getD slate i []) ∙ sym (ap (λ (ls : List Line). ls ++ (lineOf (getD slate i []) ∷ [])) (lines-rows i slate))
+
+pub entries-few : (k n : ℕ) (slate : List (List ℕ)) → entriesOn k (linesOf n slate) ≤ n
+unfolding entriesOn linesOf
+entries-few k zero slate = omega arith
+entries-few k (suc n) [] = omega arith
+entries-few k (suc n) (row ∷ slate) = go (eqb (lineOf row .number) k) (entries-few k n slate)
+  where
+    go : (q : Bool) → entriesOn k (linesOf n slate) ≤ n → cond q 1 0 + entriesOn k (linesOf n slate) ≤ suc n
+    go true h = omega arith
+    go false h = omega arith
+
+pub counted-none : (slate : List (List ℕ)) → Counted slate 0 (replicate 16 0)
+unfolding entriesOn linesOf
+counted-none slate k l = getD-replicate {A = ℕ} 16 k 0 0 l
+
+pub counted-next : (slate : List (List ℕ)) (i : ℕ) (tally : List ℕ) → length tally ≡ 16 → i < length slate → getD (getD slate i []) 0 0 < 16 → Counted slate i tally
+    → Counted slate (i + 1) (set tally (getD (getD slate i []) 0 0) (getD tally (getD (getD slate i []) 0 0) 0 + 1))
+unfolding lineOf
+counted-next slate i tally long l m h k n =
+    sym (ap (entriesOn k) (lines-next slate i l) ∙ entries-more k (linesOf i slate) (lineOf (getD slate i []))
+    ∙ ⊎-elim
+    (λ (z : number ≡ k).
+    rw (eq-eqb number k z, ← h k n, ← z) (sym (getD-set-same tally number (getD tally number 0 + 1) 0 (omega (arith, long)))))
+    (λ (z : k ≡ number → ⊥).
+    rw (other z, ← h k n) (plain ∙ sym (getD-set-other tally number k (getD tally number 0 + 1) 0 z)))
+    (same-or-not number k))
+  where
+    number : ℕ
+    number = getD (getD slate i []) 0 0
+
+    other : (k ≡ number → ⊥) → eqb number k ≡ false
+    other z = go (eqb number k) refl
+      where
+        go : (q : Bool) → eqb number k ≡ q → q ≡ false
+        go true e = absurd (z (sym (eqb-true number k e)))
+        go false e = refl
+
+    plain : getD tally k 0 + 0 ≡ getD tally k 0
+    plain = omega arith
+
+-- the lengths of the diaries: one place more
+pub few-none : (k : ℕ) → k < 16 → getD (replicate 16 0) k 0 ≤ 64
+few-none k l = rw (getD-replicate {A = ℕ} 16 k 0 0 l) (omega arith)
+
+pub few-next : (xs : List ℕ) (i v : ℕ) → i < length xs → v ≤ 64 → ((k : ℕ) → k < 16 → getD xs k 0 ≤ 64) → (k : ℕ) → k < 16 → getD (set xs i v) k 0 ≤ 64
+few-next xs i v l m h k n =
+    ⊎-elim
+    (λ (z : i ≡ k). rw (← z, getD-set-same xs i v 0 l) m)
+    (λ (z : k ≡ i → ⊥). rw (getD-set-other xs i k v 0 z) (h k n))
+    (same-or-not i k)
+
+-- the checks of the rows are those of the lines
+module _ (b : Board) (v : valid b ≡ true) (places : List ℕ) (known : Known b places) where
+  -- a number with a place is on the board
+  numbered-is : (row : List ℕ) → numbered places row ≡ onBoard b (lineOf row .number)
+  unfolding lineOf isAt
+  numbered-is row =
+      both-ways (numbered places row) (onBoard b (getD row 0 0))
+      (λ e. let w = number-is places row e in ap isAt (place-on b v places known (getD row 0 0) (w .0) (w .1)))
+      (λ o. let w = number-place b v places known (getD row 0 0) o in number-on places row (w .0) (omega (arith, w .2, rules b v .few)))
+
+  pub numbers-lines : (n : ℕ) (slate : List (List ℕ)) → every (numbered places) (take n slate) ≡ every (λ l. onBoard b (l .number)) (linesOf n slate)
+  numbers-lines n slate =
+      every-both (numbered places) (λ row. onBoard b (lineOf row .number)) (take n slate) numbered-is
+      ∙ sym (every-map (λ l. onBoard b (l .number)) lineOf (take n slate))
+      ∙ sym (ap (every (λ (l : Line). onBoard b (l .number))) (lines-rows n slate))
+
+  module _ (lens tally : List ℕ) (n : ℕ) (slate : List (List ℕ)) (long : (i : ℕ) → i < b .len → getD lens i 0 ≡ resourceAt b i .timeline .len) (counted : Counted slate n tally) where
+    roomy-is : (row : List ℕ) → numbered places row ≡ true → roomy places lens tally row ≡ leb (diaryOf b (lineOf row .number) .len + entriesOn (lineOf row .number) (linesOf n slate)) 64
+    unfolding roomy
+    roomy-is row e =
+        let w = number-place b v places known (lineOf row .number) (sym (numbered-is row) ∙ e) in
+        rw (counted (lineOf row .number) (w .0), long (getD places (lineOf row .number) 0) (w .2), diary-at b v (lineOf row .number) (getD places (lineOf row .number) 0) (w .1)) refl
+
+    pub room-lines : every (numbered places) (take n slate) ≡ true
+        → every (roomy places lens tally) (take n slate) ≡ every (λ l. leb (diaryOf b (l .number) .len + entriesOn (l .number) (linesOf n slate)) 64) (linesOf n slate)
+    room-lines e =
+        every-same (numbered places) (roomy places lens tally) (λ row. leb (diaryOf b (lineOf row .number) .len + entriesOn (lineOf row .number) (linesOf n slate)) 64) (take n slate) roomy-is e
+        ∙ sym (every-map (λ l. leb (diaryOf b (l .number) .len + entriesOn (l .number) (linesOf n slate)) 64) lineOf (take n slate))
+        ∙ sym (ap (every (λ (l : Line). leb (diaryOf b (l .number) .len + entriesOn (l .number) (linesOf n slate)) 64)) (lines-rows n slate))
+
+pub units-lines : (n : ℕ) (slate : List (List ℕ)) → every metered (take n slate) ≡ every (λ l. leb 1 (l .units) && leb (l .units) 10000) (linesOf n slate)
+unfolding metered
+units-lines n slate =
+    sym (every-map (λ l. leb 1 (l .units) && leb (l .units) 10000) lineOf (take n slate))
+    ∙ sym (ap (every (λ (l : Line). leb 1 (l .units) && leb (l .units) 10000)) (lines-rows n slate))

@@ -1,0 +1,92 @@
+-- `commit_checks::units_right` meets its contract. The loop: the rows so far want units in range.
+use borrow.Author.Needs.{needs}
+use mathlib.Core.Path.{_≡_, refl, sym}
+use mathlib.Core.Bool.{true}
+use Prim.Native.Nat.{_-_, _≤_}
+use native.Mathlib.Omega.{arith}
+use lib.ListN.{length, getD, take}
+use Rattle.commit_checks.proofs.units_right.Statement.{statement}
+use Rattle.commit_checks.proofs.units_right.Tie as tie
+use Rattle.activity.specs.Check.{every}
+use Rattle.commit_checks.specs.Lines.{metered}
+use mathlib.Core.List.{[]}
+use Rattle.scheduler.specs.Arrays.{every-next, every-off}
+use Rattle.commit_checks.proofs.Rows.{units-none, units-many, units-fine}
+
+abbrev Inv-loop : tie.InvT-loop
+Inv-loop slate count i₀ i = (count ≤ length slate) × (i ≤ count) × (every metered (take i slate) ≡ true)
+
+abbrev μ-loop : tie.MeasureT-loop
+μ-loop slate count i₀ i = count - i
+
+loop-holds : tie.Need-loop-holds Inv-loop μ-loop
+unfolding every
+loop-holds c = (c .pre, omega arith, refl)
+
+mul-row : tie.Need-mul-row Inv-loop μ-loop
+mul-row c = search needs
+
+shared-slice-copy-out-row : tie.Need-shared-slice-copy-out-row Inv-loop μ-loop
+shared-slice-copy-out-row c =
+    let v = c .before .loop .inv in
+    let l = c .loop-test .taken in
+    omega (arith, v .0)
+
+array-read-units : tie.Need-array-read-units Inv-loop μ-loop
+array-read-units c = search needs
+
+returns : tie.Need-returns Inv-loop μ-loop
+returns c =
+    let a = c .before .before .before .before .args in
+    let v = c .before .before .before .loop .inv in
+    let i = c .before .before .before .loop .i in
+    let l = c .before .before .loop-test .taken in
+    sym (every-off metered [] (a .slate .now) i (a .count) l (v .0) (units-none (getD (a .slate .now) i []) (c .if1 .taken)))
+
+returns-2 : tie.Need-returns-2 Inv-loop μ-loop
+returns-2 c =
+    let a = c .before .before .before .before .before .args in
+    let v = c .before .before .before .before .loop .inv in
+    let i = c .before .before .before .before .loop .i in
+    let l = c .before .before .before .loop-test .taken in
+    sym (every-off metered [] (a .slate .now) i (a .count) l (v .0) (units-many (getD (a .slate .now) i []) (c .if2 .taken)))
+
+add-i : tie.Need-add-i Inv-loop μ-loop
+add-i c = search needs
+
+loop-less : tie.Need-loop-less Inv-loop μ-loop
+loop-less c = search needs
+
+loop-again : tie.Need-loop-again Inv-loop μ-loop
+loop-again c =
+    let a = c .before .before .before .before .before .args in
+    let v = c .before .before .before .before .loop .inv in
+    let i = c .before .before .before .before .loop .i in
+    let l = c .before .before .before .loop-test .taken in
+    (v .0, omega arith, every-next metered [] (a .slate .now) i (omega (arith, v .0)) (v .2) (units-fine (getD (a .slate .now) i []) (c .before .if1 .left) (c .if2 .left)))
+
+returns-3 : tie.Need-returns-3 Inv-loop μ-loop
+returns-3 c =
+    let a = c .before .before .args in
+    let v = c .before .loop .inv in
+    let i = c .before .loop .i in
+    let l = c .loop-test .left in
+    let z : i ≡ a .count = omega arith in
+    sym (rw z at (v .2))
+
+pub units-right-spec : {M : Type 1} → statement M
+units-right-spec =
+    tie.close
+    (tie.spec
+    Inv-loop
+    μ-loop
+    loop-holds
+    mul-row
+    shared-slice-copy-out-row
+    array-read-units
+    returns
+    returns-2
+    add-i
+    loop-less
+    loop-again
+    returns-3)

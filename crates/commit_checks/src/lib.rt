@@ -1,0 +1,151 @@
+// The checks of a commitment's rows (01, 'Committing': 5, 1, 2, 3, 4), each over all of them before the next.
+use board::Board;
+use calendar::limits::LAST_INSTANT;
+ghost use mathlib.Core.Path.{_≡_};
+ghost use mathlib.Core.Bool.{true};
+ghost use mathlib.Core.List.{[]};
+ghost use Prim.Native.Nat.{ℕ, _≤_, _<_};
+ghost use lib.ListN.{length, getD, take};
+ghost use Rattle.activity.specs.Check.{every};
+ghost use Rattle.board.specs.Resources.{resourceAt};
+ghost use Rattle.board.specs.Valid.{valid};
+ghost use Rattle.scheduler.specs.Committing.{linesOf, linesRefusal};
+ghost use Rattle.alone.specs.Plans.{Known};
+ghost use Rattle.commit_checks.specs.Lines.{numbered, metered, roomy, Counted};
+
+// Each of the first `count` rows names a resource on the board.
+fn numbers_right(slate: &[[u64; 4]], count: usize, places: [usize; 16]) -> bool
+    requires { ⌜ count ≤ length (now slate) ⌝ }
+    ensures { λ r. ⌜ r ≡ every (numbered places) (take count (now (slate .entry))) ⌝ }
+{
+    let mut i: usize = 0;
+    while i < count {
+        let row = slate[i];
+        let number = row[0];
+        if number >= 16 {
+            return false;
+        }
+        if places[number as usize] >= 16 {
+            return false;
+        }
+        i += 1;
+    }
+    true
+}
+
+// Each of them wants 1 to 10,000 units.
+fn units_right(slate: &[[u64; 4]], count: usize) -> bool
+    requires { ⌜ count ≤ length (now slate) ⌝ }
+    ensures { λ r. ⌜ r ≡ every metered (take count (now (slate .entry))) ⌝ }
+{
+    let mut i: usize = 0;
+    while i < count {
+        let row = slate[i];
+        let units = row[2];
+        if units < 1 {
+            return false;
+        }
+        if units > 10000 {
+            return false;
+        }
+        i += 1;
+    }
+    true
+}
+
+// How many of the first `count` rows name each number.
+fn tally_of(slate: &[[u64; 4]], count: usize) -> [u64; 16]
+    requires { ⌜ (count ≤ length (now slate)) × ((k : ℕ) → k < count → getD (getD (now slate) k []) 0 0 < 16) ⌝ }
+    ensures { λ r. ⌜ Counted (now (slate .entry)) count r ⌝ }
+{
+    let mut tally: [u64; 16] = [0; 16];
+    let mut i: usize = 0;
+    while i < count {
+        let row = slate[i];
+        let number = row[0] as usize;
+        tally[number] += 1;
+        i += 1;
+    }
+    tally
+}
+
+// How many bookings each diary has, by its place on the board.
+fn lens_of(b: Board) -> [u64; 16]
+    requires { ⌜ valid b ≡ true ⌝ }
+    ensures { λ r. ⌜ ((i : ℕ) → i < b .len → getD r i 0 ≡ resourceAt b i .timeline .len) × ((i : ℕ) → i < 16 → getD r i 0 ≤ 64) ⌝ }
+{
+    let len = b.len;
+    let mut lens: [u64; 16] = [0; 16];
+    let mut i: usize = 0;
+    while i < len {
+        let r = b.resources[i];
+        let t = r.timeline;
+        lens[i] = t.len as u64;
+        i += 1;
+    }
+    lens
+}
+
+// Each diary named has places for all its entries.
+fn room_right(
+    slate: &[[u64; 4]],
+    count: usize,
+    places: [usize; 16],
+    lens: [u64; 16],
+    tally: [u64; 16],
+) -> bool
+    requires { ⌜ (count ≤ length (now slate)) × (every (numbered places) (take count (now slate)) ≡ true) ⌝ }
+    requires { ⌜ ((k : ℕ) → k < 16 → getD lens k 0 ≤ 64) ⌝ }
+    ensures { λ r. ⌜ r ≡ every (roomy places lens tally) (take count (now (slate .entry))) ⌝ }
+{
+    let mut i: usize = 0;
+    while i < count {
+        let row = slate[i];
+        let number = row[0] as usize;
+        let place = places[number];
+        if tally[number] > 64 - lens[place] {
+            return false;
+        }
+        i += 1;
+    }
+    true
+}
+
+// The refusal of some rows, 0 for none.
+pub fn lines_refusal(
+    b: Board,
+    places: [usize; 16],
+    slate: &[[u64; 4]],
+    count: usize,
+    start: u64,
+    end: u64,
+    category: u8,
+) -> u8
+    requires { ⌜ (valid b ≡ true) × Known b places × (count ≤ length (now slate)) ⌝ }
+    ensures { λ r. ⌜ r ≡ linesRefusal b (linesOf count (now (slate .entry))) start end category ⌝ }
+{
+    if !numbers_right(slate, count, places) {
+        return 5;
+    }
+    if category > 15 {
+        return 5;
+    }
+    if start > LAST_INSTANT {
+        return 1;
+    }
+    if end > LAST_INSTANT {
+        return 1;
+    }
+    if end <= start {
+        return 2;
+    }
+    if !units_right(slate, count) {
+        return 3;
+    }
+    let tally = tally_of(slate, count);
+    let lens = lens_of(b);
+    if !room_right(slate, count, places, lens, tally) {
+        return 4;
+    }
+    0
+}

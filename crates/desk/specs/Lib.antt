@@ -1,0 +1,2 @@
+-- What is in hand at the start.
+pub mod Desk

@@ -1,0 +1,2 @@
+-- What the searches answer; the definitions themselves stand beside the diary.
+pub mod Steps

@@ -1,0 +1,4 @@
+-- Tools for walks by hand.
+mod Enter
+mod Plainly
+mod Turns

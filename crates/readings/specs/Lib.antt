@@ -1,0 +1,2 @@
+-- What reading a diary answers.
+pub mod Reading

@@ -1,0 +1,2 @@
+-- Laws of numbers, for the proofs of this crate.
+pub mod Figures
