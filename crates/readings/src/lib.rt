@@ -1,7 +1,7 @@
 // What can be read of a diary (`capacity`, `booked_ms`, `latest_end` in scheduler/timeline.rs).
 use timeline::ResourceTimeline;
 ghost use mathlib.Core.Path.{_≡_};
-ghost use Rattle.readings.specs.Reading.{readOf, capacityRead, bookedRead, latestRead};
+ghost use Rattle.readings.specs.Reading.{readOf, read, capacityRead, bookedRead, latestRead};
 
 // What reading a diary answers: a number, or a refusal's number.
 pub enum Reading {
@@ -9,24 +9,29 @@ pub enum Reading {
     Refused(u8),
 }
 
+// A number read of a diary, or refuses: 15 a diary that breaks the rules.
+fn checked(timeline: ResourceTimeline, n: u64) -> Reading
+    ensures { λ r. ⌜ readOf r ≡ read timeline n ⌝ }
+{
+    if timeline::is_valid(timeline) {
+        Reading::Value(n)
+    } else {
+        Reading::Refused(15)
+    }
+}
+
 // Units that can be booked at once, or refuses: 15 a diary that breaks the rules.
 pub fn capacity(timeline: ResourceTimeline) -> Reading
     ensures { λ r. ⌜ readOf r ≡ capacityRead timeline ⌝ }
 {
-    if !timeline::is_valid(timeline) {
-        return Reading::Refused(15);
-    }
-    Reading::Value(timeline.capacity as u64)
+    checked(timeline, timeline.capacity as u64)
 }
 
 // The booked total, or refuses: 15 a diary that breaks the rules.
 pub fn booked_ms(timeline: ResourceTimeline) -> Reading
     ensures { λ r. ⌜ readOf r ≡ bookedRead timeline ⌝ }
 {
-    if !timeline::is_valid(timeline) {
-        return Reading::Refused(15);
-    }
-    Reading::Value(timeline.booked)
+    checked(timeline, timeline.booked)
 }
 
 // The latest end, 0 where there is no booking, or refuses: 15 a diary that breaks the rules.

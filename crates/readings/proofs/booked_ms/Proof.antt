@@ -1,29 +1,28 @@
--- `readings::booked_ms` meets its contract.
+-- `readings::booked_ms` meets its contract: a diary that keeps the rules has its total in its cell.
 use borrow.Author.Needs.{needs}
-use borrow.Author.Tests.{not-true, not-false}
-use mathlib.Core.Path.{refl, sym, _∙_}
-use Rattle.readings.specs.Reading.{readOf, read}
+use mathlib.Core.Path.{_≡_, refl, ap, _∙_}
+use mathlib.Core.Bool.{Bool, true, false, not, cond}
+use Rattle.timeline.specs.declared.ResourceTimeline.{ResourceTimeline}
+use Rattle.timeline.specs.Bookings.{bookings, total}
+use Rattle.timeline.specs.Valid.{valid}
 use Rattle.timeline.proofs.Rules.{rules}
+use Rattle.readings.specs.Reading.{Read, value, refused, read, bookedRead}
 use Rattle.readings.proofs.booked_ms.Statement.{statement}
 use Rattle.readings.proofs.booked_ms.Tie as tie
 
-is-valid-requires : tie.Need-is-valid-requires
-is-valid-requires c κs = search needs
+total-read : (t : ResourceTimeline) → read t (t .booked) ≡ bookedRead t
+unfolding read
+total-read t = go (valid t) refl
+  where
+    go : (v : Bool) → valid t ≡ v → cond (not v) (refused 15) (value (t .booked)) ≡ cond (not v) (refused 15) (value (total (bookings t)))
+    go true e = ap value (rules t e .sum)
+    go false e = refl
+
+checked-requires : tie.Need-checked-requires
+checked-requires c κs = search needs
 
 returns : tie.Need-returns
-unfolding readOf read
-returns c = rw (sym (c .before .is-valid .ensures) ∙ not-true _ (c .if1 .taken)) refl
-
-returns-2 : tie.Need-returns-2
-unfolding readOf read
-returns-2 c =
-    let v = sym (c .before .is-valid .ensures) ∙ not-false _ (c .if1 .left) in
-    rw (v, ← rules _ v .sum) refl
+returns c = c .checked .ensures ∙ total-read _
 
 pub booked-ms-spec : {M : Type 1} → statement M
-booked-ms-spec =
-    tie.close
-    (tie.spec
-    is-valid-requires
-    returns
-    returns-2)
+booked-ms-spec = tie.close (tie.spec checked-requires returns)
