@@ -1,4 +1,3 @@
 -- The proofs of the functions.
-mod Planning
 pub mod Knowing
 pub mod Seating

@@ -1,9 +1,5 @@
 // What each resource answers alone, with its companions (the loop over the serving resources in `place_activity` and `with_companions`
 // in scheduler/simple.rs; 01, 'Choosing', its first half).
-use activity::Activity;
-use activity::ActivityDuration;
-use activity::Timed;
-use board::Board;
 use board::Resource;
 use earliest::Start;
 use together::Group;
@@ -13,82 +9,12 @@ ghost use mathlib.Core.List.{[], _∷_};
 ghost use Prim.Native.Nat.{ℕ, _+_, _^_, _≤_, _<_};
 ghost use lib.ListN.{getD, replicate};
 ghost use Rattle.earliest.specs.Steps.{startOf};
-ghost use Rattle.activity.specs.Check.{activityRefusal};
-ghost use Rattle.activity.specs.Durations.{durationOn};
-ghost use Rattle.activity.specs.Lawful.{Lawful};
-ghost use Rattle.board.specs.Setups.{setupOn};
-ghost use Rattle.board.specs.Valid.{resourceRight, valid};
+ghost use Rattle.board.specs.Valid.{valid};
 ghost use Rattle.calendar.specs.Search.{nothing};
 ghost use Rattle.board.specs.declared.Board as declared;
-ghost use Rattle.scheduler.specs.Alone.{spanOf, earliestOf};
+ghost use Rattle.scheduler.specs.Alone.{earliestOf};
 ghost use Rattle.scheduler.specs.Shares.{sharesTo, Wanted};
-ghost use Rattle.alone.specs.Plans.{Known, Planned, Seated};
-
-// Span, process time and arrival of each resource on the board, by its place: they do not change from round to round.
-pub struct Plan {
-    pub spans: [u64; 16],
-    pub processes: [u64; 16],
-    pub arrivals: [u64; 16],
-    pub numbers: [u8; 16],
-    pub kinds: [u8; 16],
-    pub skills: [u64; 16],
-}
-
-// Span and process time of a resource alone.
-struct Lasting {
-    span: u64,
-    process: u64,
-}
-
-fn alone_on(r: Resource, base: ActivityDuration, timings: [Timed; 16], category: u8) -> Lasting
-    requires { ⌜ (resourceRight r ≡ true) × Lawful base timings × (category ≤ 15) ⌝ }
-    ensures { λ x. ⌜ (x .span ≡ spanOf (setupOn r category (durationOn base timings (r .number ∷ []) .setup)) (durationOn base timings (r .number ∷ []))) × (x .process ≡ durationOn base timings (r .number ∷ []) .process) ⌝ }
-{
-    let d = activity::core::duration_on(base, timings, [r.number; 8], 1);
-    let matrix = r.matrix;
-    let last = r.last;
-    let setup = setups::setup_ms(matrix, last, category, d.setup);
-    Lasting {
-        span: setup + d.process + d.teardown,
-        process: d.process,
-    }
-}
-
-pub fn plan_of(b: Board, a: Activity, ready: u64) -> Plan
-    requires { ⌜ (valid b ≡ true) × (activityRefusal a ready ≡ 0) ⌝ }
-    ensures { λ r. ⌜ Planned b a ready r ⌝ }
-{
-    let len = b.len;
-    let transport = b.transport;
-    let base = a.duration;
-    let timings = a.timings;
-    let mut spans: [u64; 16] = [0; 16];
-    let mut processes: [u64; 16] = [0; 16];
-    let mut arrivals: [u64; 16] = [0; 16];
-    let mut numbers: [u8; 16] = [0; 16];
-    let mut kinds: [u8; 16] = [0; 16];
-    let mut skills: [u64; 16] = [0; 16];
-    let mut i: usize = 0;
-    while i < len {
-        let r = b.resources[i];
-        let x = alone_on(r, base, timings, a.category);
-        spans[i] = x.span;
-        processes[i] = x.process;
-        arrivals[i] = ready + setups::transport_between(&transport, a.origins, r.number);
-        numbers[i] = r.number;
-        kinds[i] = r.kind;
-        skills[i] = r.skills;
-        i += 1;
-    }
-    Plan {
-        spans: spans,
-        processes: processes,
-        arrivals: arrivals,
-        numbers: numbers,
-        kinds: kinds,
-        skills: skills,
-    }
-}
+ghost use Rattle.alone.specs.Plans.{Known, Seated};
 
 // The places of a resource and its companions, in this order; `right` says that every companion is on the board. The cells past them
 // hold some place on the board.

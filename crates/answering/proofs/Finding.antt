@@ -20,38 +20,36 @@ use Rattle.board.specs.declared.Board.{Board}
 use Rattle.board.specs.Resources.{noResource, resourcesOf, resourceAt, onBoard}
 use Rattle.board.specs.Valid as board
 use Rattle.board.proofs.Meaning.{resource-of, greatest-small, setup-small}
-use Rattle.scheduler.specs.Alone.{Share, allStart, lastOf, earliestOf, companionsOf, withCompanions, durationAlone, spanOf, arrival}
+use Rattle.scheduler.specs.Alone.{Share, allStart, lastOf, earliestOf, companionsOf, withCompanions, durationAlone, spanOf, spanAlone, arrival, startWith, startAlone}
 use Rattle.scheduler.specs.Arrays.{each-at}
 use Rattle.scheduler.specs.Together.{Sound}
 use Rattle.scheduler.specs.Latest.{last-small, together-answers, together-is}
 use Rattle.scheduler.specs.Ruled.{all-kept, all-there}
 use Rattle.scheduler.specs.Answering.{Kept, Answers}
-use Rattle.alone.specs.declared.Plan.{Plan}
-use Rattle.scheduler.specs.Alone.{startWith}
-use Rattle.answering.specs.Tables.{PlannedFor, foundAt, numberOf}
+use Rattle.answering.specs.Tables.{foundAt, numberOf}
 
--- the spans and arrivals of a plan are in range
-module _ (b : Board) (v : board.valid b ≡ true) (a : Activity) (p : Plan) (w : PlannedFor b a p) (i : ℕ) (l : i < b .len) where
-  pub span-range : getD (p .spans) i 0 ≤ 2 ^ 53
+-- span and arrival of a resource alone are in range
+module _ (b : Board) (v : board.valid b ≡ true) (a : Activity) (ready : ℕ) (w : activityRefusal a ready ≡ 0) (i : ℕ) (l : i < b .len) where
+  pub span-range : spanAlone a (resourceAt b i) ≤ 2 ^ 53
   unfolding durationAlone spanOf
   span-range =
-      let k = accepted a (w .0) (w .1) in
+      let k = accepted a ready w in
       let r = resource-of b v i l in
       let d = duration-bounded (a .duration) (a .timings) (resourceAt b i .number ∷ []) (k .lawful) (omega arith) in
-      omega (arith, w .2 .spans i l, d .process-range, d .teardown-range, setup-small (resourceAt b i .matrix) (resourceAt b i .last) (a .category) _ (r .matrix) (r .last) (k .category-range) (d .setup-range))
+      omega (arith, d .process-range, d .teardown-range, setup-small (resourceAt b i .matrix) (resourceAt b i .last) (a .category) _ (r .matrix) (r .last) (k .category-range) (d .setup-range))
 
-  pub arrival-range : getD (p .arrivals) i 0 ≤ 2 ^ 43
+  pub arrival-range : arrival b a ready (resourceAt b i) ≤ 2 ^ 43
   unfolding arrival
   arrival-range =
-      let k = accepted a (w .0) (w .1) in
+      let k = accepted a ready w in
       let r = resource-of b v i l in
-      omega (arith, w .2 .arrivals i l, k .ready-range, greatest-small (onBoard b) b v (a .origins) (resourceAt b i .number) 16 (omega (arith, r .number)) (omega arith))
+      omega (arith, k .ready-range, greatest-small (onBoard b) b v (a .origins) (resourceAt b i .number) 16 (omega (arith, r .number)) (omega arith))
 
   -- a resource and its companions, where these are on the board
   companions-kept : (q : ResourceRequirement) → every (onBoard b) (companionsOf (resourceAt b i)) ≡ true → Sound (withCompanions b (resourceAt b i) (q .usage))
   companions-kept q =
       let n : length (resourcesOf b) ≡ b .len = length-take-le (b .len) (b .resources) (all-there b v) in
-      subst (Kept b a (w .0) q) (getD-take (b .len) (b .resources) i noResource l) (each-at (Kept b a (w .0) q) noResource (resourcesOf b) (all-kept b v a (w .0) q) i (omega arith))
+      subst (Kept b a ready q) (getD-take (b .len) (b .resources) i noResource l) (each-at (Kept b a ready q) noResource (resourcesOf b) (all-kept b v a ready q) i (omega arith))
 
 no-start : (s : ℕ) → nothing ≡ at s → ⊥
 no-start s q =
@@ -88,44 +86,44 @@ unfolding numberOf
 number-none nothing l h = refl
 number-none (at s) l h = absurd (omega (arith, h s refl))
 
-module _ (b : Board) (v : board.valid b ≡ true) (a : Activity) (p : Plan) (w : PlannedFor b a p) (q : ResourceRequirement) (resumable : Bool) (i : ℕ) (l : i < b .len) where
+module _ (b : Board) (v : board.valid b ≡ true) (a : Activity) (ready : ℕ) (w : activityRefusal a ready ≡ 0) (q : ResourceRequirement) (i : ℕ) (l : i < b .len) where
   abbrev asked : ℕ → Found
-  asked t = startWith b (resourceAt b i) (q .usage) resumable (getD (p .spans) i 0) (max t (getD (p .arrivals) i 0))
+  asked t = startAlone b a ready q (resourceAt b i) t
 
   -- a start lies by 2^43
-  pub found-range : (t s : ℕ) → t ≤ 2 ^ 43 → foundAt b q p resumable t i ≡ at s → s ≤ 2 ^ 43
-  unfolding foundAt
+  pub found-range : (t s : ℕ) → t ≤ 2 ^ 43 → foundAt b a ready q t i ≡ at s → s ≤ 2 ^ 43
+  unfolding foundAt startAlone
   found-range t s m = go (serves q (resourceAt b i .number) (resourceAt b i .kind) (resourceAt b i .skills))
     where
       go : (c : Bool) → cond c (asked t) nothing ≡ at s → s ≤ 2 ^ 43
-      go true e = omega (arith, start-by b (resourceAt b i) (q .usage) resumable (getD (p .spans) i 0) (max t (getD (p .arrivals) i 0)) s (companions-kept b v a p w i l q) e, arrival-range b v a p w i l)
+      go true e = omega (arith, start-by b (resourceAt b i) (q .usage) (a .resumable) (spanAlone a (resourceAt b i)) (max t (arrival b a ready (resourceAt b i))) s (companions-kept b v a ready w i l q) e, arrival-range b v a ready w i l)
       go false e = absurd (no-start s e)
 
   -- from a later instant, up to the start, it is the same
-  pub found-later : (t u : ℕ) → t ≤ u → u ≤ numberOf (foundAt b q p resumable t i) → foundAt b q p resumable u i ≡ foundAt b q p resumable t i
-  unfolding foundAt startWith numberOf
+  pub found-later : (t u : ℕ) → t ≤ u → u ≤ numberOf (foundAt b a ready q t i) → foundAt b a ready q u i ≡ foundAt b a ready q t i
+  unfolding foundAt startAlone startWith numberOf
   found-later t u m = go (serves q (resourceAt b i .number) (resourceAt b i .kind) (resourceAt b i .skills))
     where
       xs : List Share
       xs = withCompanions b (resourceAt b i) (q .usage)
 
       arrives : ℕ
-      arrives = getD (p .arrivals) i 0
+      arrives = arrival b a ready (resourceAt b i)
 
       span : ℕ
-      span = getD (p .spans) i 0
+      span = spanAlone a (resourceAt b i)
 
       found : ℕ → Found
-      found y = earliestOf resumable span xs (max y arrives)
+      found y = earliestOf (a .resumable) span xs (max y arrives)
 
-      same : Sound xs → (f : Found) → Answers (allStart resumable span xs) (max t arrives) f → u ≤ numberOf f → Answers (allStart resumable span xs) (max u arrives) f
+      same : Sound xs → (f : Found) → Answers (allStart (a .resumable) span xs) (max t arrives) f → u ≤ numberOf f → Answers (allStart (a .resumable) span xs) (max u arrives) f
       same k nothing h n = λ y o. h y (omega arith)
       same k (at s) h n = record { low = omega (arith, h .low); holds = h .holds; first = λ y o z. h .first y (omega arith) z }
 
       with : (c : Bool) → every (onBoard b) (companionsOf (resourceAt b i)) ≡ c → u ≤ numberOf (cond c (found t) nothing) → cond c (found u) nothing ≡ cond c (found t) nothing
       with true e n =
-          let k = companions-kept b v a p w i l q e in
-          sym (together-is resumable span xs (max u arrives) (found t) k (same k (found t) (together-answers resumable span xs (max t arrives) k) n))
+          let k = companions-kept b v a ready w i l q e in
+          sym (together-is (a .resumable) span xs (max u arrives) (found t) k (same k (found t) (together-answers (a .resumable) span xs (max t arrives) k) n))
       with false e n = refl
 
       go : (c : Bool) → u ≤ numberOf (cond c (cond (every (onBoard b) (companionsOf (resourceAt b i))) (found t) nothing) nothing)

@@ -1,31 +1,25 @@
--- What each resource answers to each requirement, as the code keeps it: by the plan, which has what does not change from round to round.
-use Prim.Native.Nat.{ℕ, _+_, _*_, _^_, _≤_, _<_, max}
+-- What each resource answers to each requirement, as the code keeps it.
+use Prim.Native.Nat.{ℕ, _+_, _*_, _^_, _≤_, _<_}
 use mathlib.Core.Path.{_≡_}
-use mathlib.Core.Bool.{Bool, cond}
+use mathlib.Core.Bool.{true, cond}
+use mathlib.Core.List.{List}
 use lib.ListN.{getD, length}
 use Rattle.calendar.specs.Search.{Found, nothing, at}
 use Rattle.activity.specs.declared.ResourceRequirement.{ResourceRequirement}
 use Rattle.activity.specs.declared.Activity.{Activity}
 use Rattle.activity.specs.Serving.{serves}
-use Rattle.activity.specs.Check.{activityRefusal}
-use Rattle.activity.specs.Check.{noRequirement}
+use Rattle.activity.specs.Check.{noRequirement, activityRefusal}
 use Rattle.board.specs.declared.Board.{Board}
 use Rattle.board.specs.Resources.{resourceAt}
-use Rattle.alone.specs.declared.Plan.{Plan}
-use Rattle.alone.specs.Plans.{Planned}
-use Rattle.scheduler.specs.Alone.{startWith}
-use Rattle.answering.specs.declared.Table.{Table}
-
--- the plan of an order that is not refused, at some ready
-abbrev pub PlannedFor : Board → Activity → Plan → Type 0
-PlannedFor b a p = (ready : ℕ) × (activityRefusal a ready ≡ 0) × Planned b a ready p
+use Rattle.board.specs.Valid.{valid}
+use Rattle.scheduler.specs.Alone.{startAlone}
+use Rattle.plans.specs.declared.Plan.{Plan}
+use Rattle.plans.specs.Plans.{Planned}
 
 -- the start of the resource at place i for a requirement, from t on
-unfoldable pub foundAt : Board → ResourceRequirement → Plan → Bool → ℕ → ℕ → Found
-foundAt b q p resumable t i =
-    cond (serves q (resourceAt b i .number) (resourceAt b i .kind) (resourceAt b i .skills))
-    (startWith b (resourceAt b i) (q .usage) resumable (getD (p .spans) i 0) (max t (getD (p .arrivals) i 0)))
-    nothing
+unfoldable pub foundAt : Board → Activity → ℕ → ResourceRequirement → ℕ → ℕ → Found
+foundAt b a ready q t i =
+    cond (serves q (resourceAt b i .number) (resourceAt b i .kind) (resourceAt b i .skills)) (startAlone b a ready q (resourceAt b i) t) nothing
 
 -- a start as a number, 2^63 for none
 unfoldable pub numberOf : Found → ℕ
@@ -36,17 +30,20 @@ abbrev pub requirementAt : Activity → ℕ → ResourceRequirement
 requirementAt a j = getD (a .requirements) j noRequirement
 
 -- the number for requirement j and place i, from t on
-abbrev pub startFor : Board → Activity → Plan → ℕ → ℕ → ℕ → ℕ
-startFor b a p t j i = numberOf (foundAt b (requirementAt a j) p (a .resumable) t i)
+abbrev pub startFor : Board → Activity → ℕ → ℕ → ℕ → ℕ → ℕ
+startFor b a ready t j i = numberOf (foundAt b a ready (requirementAt a j) t i)
 
--- what the table has is so for each instant between the one asked from and the start
-pub record Kept (b : Board) (a : Activity) (p : Plan) (table : Table) : Type 0 where
-  pub asked-long : length (table .asked) ≡ 64
-  pub starts-long : length (table .starts) ≡ 64
-  pub so : (j i t : ℕ) → j < a .len → i < b .len → getD (table .asked) (16 * j + i) 0 ≤ t → t ≤ getD (table .starts) (16 * j + i) 0 → getD (table .starts) (16 * j + i) 0 ≡ startFor b a p t j i
+-- what was answered is so for each instant between the one asked from and the start
+pub record Kept (b : Board) (a : Activity) (ready : ℕ) (asked starts : List ℕ) : Type 0 where
+  pub asked-long : length asked ≡ 64
+  pub starts-long : length starts ≡ 64
+  pub so : (j i t : ℕ) → j < a .len → i < b .len → getD asked (16 * j + i) 0 ≤ t → t ≤ getD starts (16 * j + i) 0 → getD starts (16 * j + i) 0 ≡ startFor b a ready t j i
 
--- and all of it from its instant on
-pub record Answered (b : Board) (a : Activity) (p : Plan) (table : Table) : Type 0 where
-  pub long : length (table .starts) ≡ 64
-  pub soon : table .instant ≤ 2 ^ 43
-  pub so : (j i : ℕ) → j < a .len → i < b .len → getD (table .starts) (16 * j + i) 0 ≡ startFor b a p (table .instant) j i
+-- an order that is not refused, on a board that keeps the rules: its plans, and all that is answered from t on
+pub record Answered (b : Board) (a : Activity) (ready t len : ℕ) (plans : List Plan) (starts : List ℕ) : Type 0 where
+  pub right : valid b ≡ true
+  pub accepted : activityRefusal a ready ≡ 0
+  pub all : len ≡ b .len
+  pub planned : Planned b a ready (b .len) plans
+  pub soon : t ≤ 2 ^ 43
+  pub so : (j i : ℕ) → j < a .len → i < b .len → getD starts (16 * j + i) 0 ≡ startFor b a ready t j i

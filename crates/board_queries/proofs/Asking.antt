@@ -29,9 +29,9 @@ use Rattle.board.proofs.Meaning.{transport-is}
 use Rattle.desk.specs.declared.Desk.{Desk}
 use Rattle.board_records.specs.declared.Stepped.{Stepped}
 use Rattle.board_queries.specs.declared.Turn.{Turn}
-use Rattle.matrices.specs.declared.Entry.{Entry}
-use Rattle.matrices.specs.Entry.{entryAt, entryFor}
-use Rattle.entering.proofs.Entering.{on-small}
+use Rattle.resource_numbers.specs.declared.Entry.{Entry}
+use Rattle.resource_numbers.specs.Entry.{entryAt, entryFor}
+use Rattle.resource_numbers.proofs.Standing.{on-small}
 use Rattle.calendar.specs.Refusals.{refusedOr, refused-by}
 use Rattle.board_queries.specs.declared.Answer.{Answer}
 use Rattle.board_queries.specs.declared.Answer.the-variants.{Nothing as Silent, Setup, Transport, Serves, No, Refused}

@@ -54,7 +54,7 @@ fn last_of(category: u8) -> LastCategory
 fn setup(board: Board, number: u8, last: u8, category: u8, own: u64) -> Answer
     ensures { λ r. ⌜ r ≡ setupReply board number last category own ⌝ }
 {
-    let p = matrices::entry_for(board, number);
+    let p = resource_numbers::entry_for(board, number);
     if p.refusal != 0 {
         return Answer::Refused(p.refusal);
     }
@@ -76,7 +76,7 @@ fn setup(board: Board, number: u8, last: u8, category: u8, own: u64) -> Answer
 fn transport(board: Board, origins: u16, to: u8) -> Answer
     ensures { λ r. ⌜ r ≡ transportReply board origins to ⌝ }
 {
-    let p = matrices::entry_for(board, to);
+    let p = resource_numbers::entry_for(board, to);
     if p.refusal != 0 {
         return Answer::Refused(p.refusal);
     }
@@ -89,7 +89,7 @@ fn transport(board: Board, origins: u16, to: u8) -> Answer
 fn serves(board: Board, requirement: ResourceRequirement, number: u8) -> Answer
     ensures { λ r. ⌜ r ≡ servesReply board requirement number ⌝ }
 {
-    let p = matrices::entry_for(board, number);
+    let p = resource_numbers::entry_for(board, number);
     if p.refusal != 0 {
         return Answer::Refused(p.refusal);
     }
@@ -138,7 +138,7 @@ fn ask(desk: Desk, kind: u8, bytes: &[u8], at: usize) -> Answer
 {
     if kind == 40 {
         let held = held_at(bytes, at + 1);
-        return lasting(order_checks::duration_on(desk.activity, held, wide(bytes[at])));
+        return lasting(order_durations::duration_on(desk.activity, held, wide(bytes[at])));
     }
     if kind == 41 {
         let own = number(bytes, at + 3, 8);

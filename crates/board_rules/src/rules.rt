@@ -13,7 +13,7 @@ ghost use lib.ListN.{getD};
 ghost use lib.Dec.{ltb};
 ghost use lib.IntN.{pos};
 ghost use Rattle.timeline.specs.Valid as timeline;
-ghost use Rattle.board.specs.Valid.{every, ownRight, entryCell, matrixRight, companionCell, companionsRight, lastRight, resourceRight, calendarBlank, diaryBlank, lastBlank, resourceBlank, transportCell};
+ghost use Rattle.board.specs.Valid.{every, isZero, entryRight, ownRight, entryCell, matrixRight, companionCell, companionsRight, lastRight, resourceRight, calendarBlank, diaryBlank, lastBlank, resourceBlank, transportCell};
 
 // The default or the initial of a matrix.
 fn own_right(present: bool, ms: i64) -> bool
@@ -34,18 +34,44 @@ fn entry_cell(present: bool, ms: i64) -> bool
     ms == 0
 }
 
-fn transitions_right(present: bool, entries: &[i64; 256]) -> bool
-    ensures { λ r. ⌜ r ≡ every (λ i. entryCell present (getD (now (entries .entry)) i (pos 0))) 256 ⌝ }
+// The pairs of a matrix that is there.
+fn pairs_right(entries: &[i64; 256]) -> bool
+    ensures { λ r. ⌜ r ≡ every (λ i. entryRight (getD (now (entries .entry)) i (pos 0))) 256 ⌝ }
 {
     let mut i: usize = 0;
     while i < 256 {
         let ms = entries[i];
-        if !entry_cell(present, ms) {
+        if !entry_right(ms) {
             return false;
         }
         i += 1;
     }
     true
+}
+
+// The pairs where there is no matrix.
+fn pairs_blank(entries: &[i64; 256]) -> bool
+    ensures { λ r. ⌜ r ≡ every (λ i. isZero (getD (now (entries .entry)) i (pos 0))) 256 ⌝ }
+{
+    let mut i: usize = 0;
+    while i < 256 {
+        let ms = entries[i];
+        if ms != 0 {
+            return false;
+        }
+        i += 1;
+    }
+    true
+}
+
+// Two loops, so that neither asks in each round whether there is a matrix.
+fn transitions_right(present: bool, entries: &[i64; 256]) -> bool
+    ensures { λ r. ⌜ r ≡ every (λ i. entryCell present (getD (now (entries .entry)) i (pos 0))) 256 ⌝ }
+{
+    if present {
+        return pairs_right(entries);
+    }
+    pairs_blank(entries)
 }
 
 fn initials_right(present: bool, entries: &[i64; 16]) -> bool

@@ -10,7 +10,8 @@ ghost use mathlib.Core.Bool.{true};
 ghost use Prim.Native.Nat.{_+_, _*_, _^_, _≤_, _<_};
 ghost use lib.ListN.{length};
 ghost use Rattle.calendar.specs.Valid.{valid};
-ghost use Rattle.joint.specs.Layout.{Edges, Ruled};
+ghost use Rattle.work_ends.specs.Layout.{Edges};
+ghost use Rattle.joint.specs.Layout.{Ruled};
 
 // The calendar in hand, the list of calendars, and the list and the instant of the last layout.
 struct Runs {

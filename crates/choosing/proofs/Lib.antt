@@ -1,7 +1,2 @@
--- The proofs of choosing.
-pub mod Cells
-pub mod Inserting
-pub mod Behind
-pub mod Answers
-pub mod Going
-pub mod Settling
+-- The proof of choosing.
+mod Asking

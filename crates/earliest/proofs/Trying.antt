@@ -12,7 +12,7 @@ use Rattle.calendar.specs.Search.{Found, nothing, at}
 use Rattle.calendar.specs.Fits.{fits}
 use Rattle.calendar.specs.Work.{working, workEnd, jointEnd}
 use Rattle.calendar.proofs.Rules.{windows-right, blocks-right, filled}
-use Rattle.joint.specs.Layout.{laid, lastCell, Layout}
+use Rattle.work_ends.specs.Layout.{laid, lastCell, Layout}
 use Rattle.joint.proofs.Ending.{layout-end-one}
 use Rattle.timeline.specs.declared.ResourceTimeline.{ResourceTimeline}
 use Rattle.timeline.specs.Bookings.{Booking, bookings}

@@ -20,11 +20,12 @@ use Rattle.board.specs.Valid.{everyFrom, every, durationRight, entryRight, isZe
 use Rattle.board.specs.declared.Board.{Board}
 use Rattle.board.specs.declared.Resource.{Resource}
 use Rattle.board.specs.declared.TransitionMatrix.{TransitionMatrix}
-use Rattle.entering.proofs.Entering.{on-small}
+use Rattle.resource_numbers.proofs.Standing.{on-small}
 use Rattle.board.proofs.Every.{every-at, every-all}
 use Rattle.board.proofs.Facts.{rules, ruled}
 use Rattle.board.proofs.Meaning.{resource-rules}
-use Rattle.entering.proofs.Replying.{add-taken, transport-taken}
+use Rattle.entering.proofs.Replying.{add-taken}
+use Rattle.transports.proofs.Replying.{transport-taken}
 use Rattle.board.proofs.Keeping.{lookup-same, widened, changed-keeps}
 use Rattle.board.proofs.Seeing.{lookup-more}
 use lib.ListN.{List·getD-append}

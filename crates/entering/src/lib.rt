@@ -1,31 +1,21 @@
-// Entries of a board: a resource, a transport (models/resource.rs, models/constraint.rs; 01, 'Board entries'). Those of a matrix stand in
-// `matrices` and are passed on; diaries are looked up and put back by `board_diaries`.
+// Entries of a board: a resource (models/resource.rs; 01, 'Board entries'). Those of a matrix stand in `matrices`, those of the transport in
+// `transports`, and both are passed on; diaries are looked up and put back by `board_diaries`.
 use board::Board;
 use board::Entered;
 use board::LastCategory;
 use board::Resource;
-use calendar::limits::LONGEST_DURATION;
 pub use matrices::set_initial;
 pub use matrices::set_matrix;
 pub use matrices::set_transition;
+use resource_numbers::is_on;
 use timeline::ResourceTimeline;
+pub use transports::set_transport;
 ghost use mathlib.Core.Path.{_≡_};
-ghost use mathlib.Core.Bool.{_&&_};
 ghost use Prim.Native.Nat.{_≤_};
 ghost use lib.ListN.{length, getD};
-ghost use lib.Dec.{leb, ltb};
+ghost use lib.Dec.{leb};
 ghost use Rattle.board.specs.Valid.{every};
-ghost use Rattle.board.specs.Enter.{companionCells, addRefusal, transportRefusal, addResourceReply, setTransportReply};
-
-// A number is on the board, by the places of all numbers.
-fn is_on(places: &[usize; 16], number: u8) -> bool
-    ensures { λ r. ⌜ r ≡ leb number 15 && ltb (getD (now (places .entry)) number 0) 16 ⌝ }
-{
-    if number > 15 {
-        return false;
-    }
-    places[number as usize] < 16
-}
+ghost use Rattle.board.specs.Enter.{companionCells, addRefusal, addResourceReply};
 
 // Every companion's number is at most 15, however many there are.
 fn numbers_right(companions: &[u8]) -> bool
@@ -83,27 +73,6 @@ fn add_refusal(b: Board, number: u8, companions: &[u8], timeline: ResourceTimeli
     0
 }
 
-// The refusal of a transport, 0 for none.
-fn transport_refusal(b: Board, from: u8, to: u8, ms: u64) -> u8
-    ensures { λ r. ⌜ r ≡ transportRefusal b from to ms ⌝ }
-{
-    let p = board_rules::places_of(b);
-    if !p.right {
-        return 15;
-    }
-    let places = p.places;
-    if !is_on(&places, from) {
-        return 5;
-    }
-    if !is_on(&places, to) {
-        return 5;
-    }
-    if ms > LONGEST_DURATION {
-        return 1;
-    }
-    0
-}
-
 // Adds a resource behind the others, or refuses: 15 a board or a diary that breaks the rules, 5 a number or a companion's above 15,
 // 4 a number that the board already has, or more than four companions.
 pub fn add_resource(
@@ -138,26 +107,6 @@ pub fn add_resource(
         last: LastCategory::Nothing,
     };
     b.len = n + 1;
-    Entered {
-        refusal: 0,
-        board: b,
-    }
-}
-
-// Sets the transport from one resource to another, or refuses: 15, 5 either not on the board, 1 above 2^36.
-pub fn set_transport(board: Board, from: u8, to: u8, ms: u64) -> Entered
-    ensures { λ r. ⌜ r ≡ setTransportReply board from to ms ⌝ }
-{
-    let refusal = transport_refusal(board, from, to, ms);
-    if refusal != 0 {
-        return Entered {
-            refusal: refusal,
-            board: board,
-        };
-    }
-    let k = 16 * (from as usize) + (to as usize);
-    let mut b = board;
-    b.transport[k] = ms;
     Entered {
         refusal: 0,
         board: b,

@@ -29,7 +29,9 @@ use Rattle.scheduler.specs.Fitting.{numberOf, numbersOf, durationTogether, held
 use Rattle.scheduler.specs.Holds.{noHold, heldOf, heldTo, OnPlaces}
 use Rattle.scheduler.specs.Lists.{Each, each-end, each-on}
 use Rattle.entries.specs.declared.Parts.{Parts}
-use Rattle.entries.specs.Parts.{noEntry, numberIn, keptSetup, setupAt, Parted}
+use Rattle.entries.specs.Parts.{noEntry, numberIn, keptSetup, setupAt, Taken, Parted}
+use Rattle.plans.specs.declared.Plan.{Plan}
+use Rattle.plans.specs.Plans.{noPlan, planWith}
 use Rattle.scheduler.specs.Arrays.{map-append, map-map, cells-map, take-next, each-cells}
 
 companions-last : (hs : List Held) (h : Held) → allCompanions (hs ++ (h ∷ [])) ≡ allCompanions hs ++ companionsOf (h .resource)
@@ -63,6 +65,14 @@ kept-next fs ss i f s g l m h e k n own =
     (λ (z : i ≡ k). rw (← z, getD-set-same fs i f false l, getD-set-same ss i s 0 m) (e own))
     (λ (z : k ≡ i → ⊥). rw (getD-set-other fs i k f false z, getD-set-other ss i k s 0 z) (h k (omega (arith, z)) own))
     (same-or-not i k)
+
+-- the companions in the plan of one held
+pub plan-companions : (b : Board) (a : Activity) (ready : ℕ) (plans : List Plan) (hs : List Hold) (n : ℕ) → Taken b a ready plans hs n → (i : ℕ) → i < n
+    → (getD plans (getD hs i noHold .place) noPlan .count ≤ 4) × ((k : ℕ) → k < getD plans (getD hs i noHold .place) noPlan .count → getD (getD plans (getD hs i noHold .place) noPlan .companions) k 0 < 16)
+unfolding planWith
+plan-companions b a ready plans hs n t i l =
+    let r = resource-of b (t .right) _ (t .places .stands i l) in
+    rw (t .planned .so _ (t .places .stands i l)) (r .few, λ k m. omega (arith, r .companions k m))
 
 module _ (b : Board) (hs : List Hold) where
   abbrev on : ℕ → Resource

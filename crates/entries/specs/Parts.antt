@@ -1,17 +1,21 @@
--- What the code takes from the board for the entries of those held.
+-- What the code takes from the plans for the entries of those held.
 use Prim.Native.Nat.{ℕ, _≤_, _<_}
 use mathlib.Core.Path.{_≡_}
-use mathlib.Core.Bool.{false, cond}
+use mathlib.Core.Bool.{true, false, cond}
 use mathlib.Core.List.{List}
 use lib.ListN.{length, getD, take}
+use Rattle.activity.specs.declared.Activity.{Activity}
 use Rattle.board.specs.declared.Board.{Board}
 use Rattle.board.specs.Resources.{resourceAt}
 use Rattle.board.specs.Setups.{setupOn}
+use Rattle.board.specs.Valid.{valid}
 use Rattle.scheduler.specs.declared.Entry.{Entry}
 use Rattle.scheduler.specs.declared.Hold.{Hold}
 use Rattle.scheduler.specs.Fitting.{allCompanions}
 use Rattle.scheduler.specs.Lists.{Each}
-use Rattle.scheduler.specs.Holds.{noHold, heldTo}
+use Rattle.scheduler.specs.Holds.{noHold, heldTo, OnPlaces}
+use Rattle.plans.specs.declared.Plan.{Plan}
+use Rattle.plans.specs.Plans.{Planned}
 use Rattle.entries.specs.declared.Parts.{Parts}
 
 -- what is read past an array's end
@@ -32,6 +36,12 @@ setupAt p hs own k = record { number = getD (p .numbers) k 0; setup = keptSetup 
 -- a resource number
 abbrev pub Small : ℕ → Type 0
 Small n = n < 16
+
+-- those held stand on a board that keeps the rules, and their plans are known
+pub record Taken (b : Board) (a : Activity) (ready : ℕ) (plans : List Plan) (hs : List Hold) (n : ℕ) : Type 0 where
+  pub right : valid b ≡ true
+  pub planned : Planned b a ready (b .len) plans
+  pub places : OnPlaces b hs n
 
 -- what was taken is the board's
 pub record Parted (b : Board) (category : ℕ) (hs : List Hold) (n : ℕ) (p : Parts) : Type 0 where

@@ -1,20 +1,20 @@
 // The entries of those held together: their setups and span, and the companions that join (the second half of `place_activity` in
 // scheduler/simple.rs; 01, 'Fitting').
 use activity::Activity;
-use board::Board;
+use plans::Plan;
 use scheduler::Entry;
 use scheduler::Hold;
 ghost use mathlib.Core.Path.{_≡_};
-ghost use mathlib.Core.Bool.{true};
 ghost use mathlib.Core.List.{[], _∷_, _++_, map};
 ghost use Prim.Native.Nat.{ℕ, _+_, _^_, _≤_, _<_};
 ghost use lib.ListN.{length, getD, take, replicate};
+ghost use Rattle.activity.specs.declared.Activity as ordered;
 ghost use Rattle.activity.specs.Lawful.{Lawful};
-ghost use Rattle.board.specs.Valid.{valid};
+ghost use Rattle.board.specs.declared.Board as declared;
 ghost use Rattle.scheduler.specs.Fitting.{greatestSetup, among, joinEach, companionEntry, entriesOf, spanTogether};
-ghost use Rattle.scheduler.specs.Holds.{heldTo, OnPlaces};
+ghost use Rattle.scheduler.specs.Holds.{heldTo};
 ghost use Rattle.scheduler.specs.Lists.{Each};
-ghost use Rattle.entries.specs.Parts.{noEntry, numberIn, setupAt, Small, Parted};
+ghost use Rattle.entries.specs.Parts.{noEntry, numberIn, setupAt, Small, Taken, Parted};
 
 // The first `count` are the entries.
 pub struct Entries {
@@ -34,7 +34,7 @@ struct Companions {
     len: usize,
 }
 
-// What the entries take from the board: the numbers held, the setups of those with a matrix, and the companions.
+// What the entries take from the plans: the numbers held, the setups of those with a matrix, and the companions.
 struct Parts {
     numbers: [u8; 8],
     fixed: [bool; 8],
@@ -75,10 +75,10 @@ fn push_each(list: Companions, more: [u8; 4], count: usize) -> Companions
     }
 }
 
-// One pass over the board.
-fn parts_of(b: Board, category: u8, held: [Hold; 8], count: usize) -> Parts
-    requires { ⌜ (valid b ≡ true) × (category ≤ 15) × (count ≤ 8) × OnPlaces b held count ⌝ }
-    ensures { λ r. ⌜ Parted b category held count r ⌝ }
+// What the plans of those held have.
+fn parts_of(plans: [Plan; 16], held: [Hold; 8], count: usize) -> Parts
+    requires { ⌜ (count ≤ 8) × ((b : declared.Board) × (a : ordered.Activity) × (ready : ℕ) × Taken b a ready plans held count) ⌝ }
+    ensures { λ r. ⌜ ((b : declared.Board) (a : ordered.Activity) (ready : ℕ) → Taken b a ready plans held count → Parted b (a .category) held count r) ⌝ }
 {
     let mut numbers: [u8; 8] = [0; 8];
     let mut fixed: [bool; 8] = [false; 8];
@@ -91,14 +91,12 @@ fn parts_of(b: Board, category: u8, held: [Hold; 8], count: usize) -> Parts
     while i < count {
         let h = held[i];
         let place = h.place;
-        let r = b.resources[place];
-        numbers[i] = r.number;
-        let matrix = r.matrix;
-        let last = r.last;
-        fixed[i] = matrix.present;
-        setups[i] = setups::setup_ms(matrix, last, category, 0);
-        let companions = r.companions;
-        list = push_each(list, companions, r.count);
+        let p = plans[place];
+        numbers[i] = p.number;
+        fixed[i] = p.fixed;
+        setups[i] = p.setup;
+        let companions = p.companions;
+        list = push_each(list, companions, p.count);
         i += 1;
     }
     Parts {
@@ -193,12 +191,12 @@ fn join_each(e: Entries, list: Companions) -> Entries
 }
 
 // The entries of those held and their companions, and the span: the greatest setup among those held, process and teardown.
-pub fn entries_of(b: Board, a: Activity, held: [Hold; 8], count: usize) -> Together
-    requires { ⌜ (valid b ≡ true) × Lawful (a .duration) (a .timings) × (a .category ≤ 15) × (count ≤ 8) × OnPlaces b held count ⌝ }
-    ensures { λ r. ⌜ (r .entries .count ≤ 24) × (length (r .entries .entries) ≡ 24) × (take (r .entries .count) (r .entries .entries) ≡ entriesOf a (heldTo b held count)) ⌝ }
-    ensures { λ r. ⌜ (r .span ≡ spanTogether a (heldTo b held count)) × (r .span ≤ 2 ^ 53) ⌝ }
+pub fn entries_of(plans: [Plan; 16], a: Activity, held: [Hold; 8], count: usize) -> Together
+    requires { ⌜ Lawful (a .duration) (a .timings) × (a .category ≤ 15) × (count ≤ 8) × ((b : declared.Board) × (ready : ℕ) × Taken b a ready plans held count) ⌝ }
+    ensures { λ r. ⌜ (r .entries .count ≤ 24) × (length (r .entries .entries) ≡ 24) × (r .span ≤ 2 ^ 53) ⌝ }
+    ensures { λ r. ⌜ ((b : declared.Board) (ready : ℕ) → Taken b a ready plans held count → (take (r .entries .count) (r .entries .entries) ≡ entriesOf a (heldTo b held count)) × (r .span ≡ spanTogether a (heldTo b held count))) ⌝ }
 {
-    let p = parts_of(b, a.category, held, count);
+    let p = parts_of(plans, held, count);
     let base = a.duration;
     let timings = a.timings;
     let numbers = p.numbers;

@@ -1,3 +1,2 @@
 -- The proofs of fitting.
-pub mod Gathering
-pub mod Resuming
+pub mod Reading

@@ -1,21 +1,15 @@
 -- Resumable work on several diaries together: the least start over their joint working time, all free to the joint end.
 use Prim.Native.Nat.{ℕ, suc, _-_}
-use mathlib.Core.Bool.{cond}
+use mathlib.Core.Bool.{true}
 use mathlib.Core.List.{List, map}
 use Rattle.calendar.specs.Search.{Found, nothing, at, leastFrom}
 use Rattle.calendar.specs.Work.{jointEnd}
 use Rattle.scheduler.specs.Alone.{Share, lastOf}
-use Rattle.scheduler.specs.Fitting.{calendarOf, allFree}
+use Rattle.scheduler.specs.Fitting.{calendarOf}
 use Rattle.scheduler.specs.Owning.{suitsOn}
 use Rattle.timeline.specs.Ask as asking
 use Rattle.fitting.specs.declared.Fit.{Fit}
 use Rattle.fitting.specs.declared.Fit.the-variants.{At, Nothing}
-use mathlib.Core.Bool.{true}
-
--- the joint end, where all are free up to it
-unfoldable pub endFree : List Share → ℕ → Found → Found
-endFree ys s nothing = nothing
-endFree ys s (at e) = cond (allFree ys s e) (at e) nothing
 
 -- the least start ≥ from
 unfoldable pub jointly : List Share → ℕ → ℕ → Found

@@ -5,7 +5,7 @@ ghost use mathlib.Core.Path.{_≡_};
 ghost use mathlib.Core.Bool.{true};
 ghost use Prim.Native.Nat.{_≤_};
 ghost use lib.ListN.{length};
-ghost use Rattle.joint.specs.Sweep.{Rising};
+ghost use Rattle.work_ends.specs.Layout.{Rising};
 ghost use Rattle.timeline.specs.Bookings.{bookingsTo};
 ghost use Rattle.timeline.specs.Valid.{valid};
 ghost use Rattle.timeline.specs.Free.{load, free};

@@ -12,10 +12,9 @@ use Rattle.calendar.specs.declared.Calendar.{Calendar}
 use Rattle.calendar.specs.Basics.{and-true, lt-or-ge, not-both}
 use Rattle.calendar.specs.Work.{working, joint, workEnd, lastChange, jointEnd}
 use Rattle.calendar.specs.Meaning.{Changeless, work-end-same, joint-changeless}
-use Rattle.joint.specs.Layout.{passed, odd, laid, lastCell, Edges, Layout}
-use Rattle.joint.specs.Sweep.{Parted}
-use Rattle.joint.proofs.Passing.{passed-all}
-use Rattle.joint.proofs.Walking.{last-most}
+use Rattle.work_ends.specs.Layout.{passed, odd, laid, lastCell, Edges, Layout, Parted}
+use Rattle.work_ends.proofs.Passing.{passed-all}
+use Rattle.work_ends.proofs.Walking.{last-most}
 
 -- past its last edge a layout changes no more
 pub laid-changeless : (xs : List ℕ) (n : ℕ) → Edges xs n → Changeless (lastCell xs n) (laid xs n)

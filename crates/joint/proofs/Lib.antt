@@ -1,7 +1,5 @@
 -- Laws on plain values, for the proofs of this crate and of those above it.
-pub mod Passing
 pub mod Sorting
 pub mod Sweeping
 pub mod Laying
-pub mod Walking
 pub mod Ending

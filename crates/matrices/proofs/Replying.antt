@@ -1,7 +1,7 @@
 -- The replies of a matrix's entries, over plain values: each refusal in its order, and what an accepted entry leaves.
 use borrow.Author.Tests.{le-leb}
 use mathlib.Core.Bool.{Bool, true, false, not, cond, _&&_}
-use mathlib.Core.Path.{_≡_, refl, sym, ap, _∙_}
+use mathlib.Core.Path.{_≡_, refl}
 use Prim.Native.Nat.{ℕ, _≤_}
 use native.Mathlib.Omega.{arith}
 use lib.Dec.{leb}
@@ -14,18 +14,9 @@ use Rattle.board.specs.Valid.{durationRight, entryRight, valid}
 use Rattle.board.specs.declared.Board.{Board}
 use Rattle.board.specs.declared.TransitionMatrix.{TransitionMatrix}
 use Rattle.board.proofs.Replying.{refused-by, taken-by}
-use Rattle.matrices.specs.declared.Entry.{Entry}
-use Rattle.matrices.specs.Entry.{entryFor}
-use Rattle.matrices.proofs.Finding.{entry-number, entry-found}
-
-pub entry-at : (b : Board) (number : ℕ) (e : Entry) → e ≡ entryFor b number → e .refusal ≡ 0 → (valid b ≡ true) × (lookup b number ≡ at (e .place))
-entry-at b number e q h = rw q (entry-found b number (ap (λ (x : Entry). x .refusal) (sym q) ∙ h))
-
-pub entry-refusal : (b : Board) (number : ℕ) (e : Entry) (rest : ℕ) → e ≡ entryFor b number → (e .refusal ≡ 0 → ⊥) → (more : Bool)
-    → e .refusal ≡ cond (not (valid b)) 15 (cond (not (onBoard b number && more)) 5 rest)
-entry-refusal b number e rest q h more =
-    let p = ap (λ (x : Entry). x .refusal) q in
-    p ∙ entry-number b number more rest (λ z. h (p ∙ z))
+use Rattle.resource_numbers.proofs.Finding.{entry-refusal}
+use Rattle.resource_numbers.specs.declared.Entry.{Entry}
+use Rattle.resource_numbers.specs.Entry.{entryFor}
 
 -- a matrix
 module _ (b : Board) (number : ℕ) (d i : ℤ) where

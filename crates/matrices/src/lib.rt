@@ -3,46 +3,10 @@
 use board::Board;
 use board::Entered;
 use board::TransitionMatrix;
+use resource_numbers::entry_for;
 ghost use mathlib.Core.Path.{_≡_};
 ghost use Prim.Native.Nat.{_≤_};
 ghost use Rattle.board.specs.Enter.{newMatrix, matrixOf, withTransition, withInitial, setMatrixReply, setTransitionReply, setInitialReply};
-ghost use Rattle.matrices.specs.Entry.{entryFor};
-
-// The refusal of an entry for a resource by the board and its number, 0 for none; then its place.
-pub struct Entry {
-    pub refusal: u8,
-    pub place: usize,
-}
-
-pub fn entry_for(b: Board, number: u8) -> Entry
-    ensures { λ r. ⌜ r ≡ entryFor b number ⌝ }
-{
-    let p = board_rules::places_of(b);
-    if !p.right {
-        return Entry {
-            refusal: 15,
-            place: 0,
-        };
-    }
-    if number > 15 {
-        return Entry {
-            refusal: 5,
-            place: 0,
-        };
-    }
-    let places = p.places;
-    let i = places[number as usize];
-    if i >= 16 {
-        return Entry {
-            refusal: 5,
-            place: 0,
-        };
-    }
-    Entry {
-        refusal: 0,
-        place: i,
-    }
-}
 
 // A matrix with every entry absent.
 fn new_matrix(default: i64, initial: i64) -> TransitionMatrix

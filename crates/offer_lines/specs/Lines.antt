@@ -2,7 +2,7 @@
 use Prim.Native.Nat.{ℕ}
 use mathlib.Core.List.{List, [], _∷_, _++_}
 use lib.ListN.{getD, take}
-use Rattle.streams.specs.Text.{decimal}
+use Rattle.texts.specs.Text.{decimal}
 use Rattle.timeline.specs.Ask.{none, refused}
 use Rattle.slot_text.specs.Lines as slot
 use Rattle.offer_records.specs.declared.Answer.{Answer}

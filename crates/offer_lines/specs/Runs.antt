@@ -1,7 +1,7 @@
 -- A placement of one entry, printed: `placed 0 5 12 1`, `entry 3 2 1 0`.
 use mathlib.Core.Path.{_≡_, refl}
 use mathlib.Core.List.{[], _∷_}
-use Rattle.streams.specs.Text.{decimalTo}
+use Rattle.texts.specs.Text.{decimalTo}
 use Rattle.offer_records.specs.declared.Answer.the-variants.{Placed}
 use Rattle.offer_records.specs.Offers.{shown}
 use Rattle.offer_lines.specs.Lines.{placedText, entryText, entriesText, lineText, textOf}

@@ -2,12 +2,12 @@
 // that it speaks of.
 use offer_records::Answer;
 use slot_text::Line;
-use streams::put;
-use streams::put_value;
+use texts::put;
+use texts::put_value;
 ghost use mathlib.Core.Path.{_≡_};
 ghost use Prim.Native.Nat.{_+_, _*_, _≤_};
 ghost use lib.ListN.{length, take};
-ghost use Rattle.streams.specs.Text.{Put};
+ghost use Rattle.texts.specs.Text.{Put};
 ghost use Rattle.offer_records.specs.Offers.{shown as shownOf};
 ghost use Rattle.offer_lines.specs.Lines.{entryText, entriesText, lineText, textOf, placedText, chosenText};
 

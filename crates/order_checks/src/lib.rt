@@ -1,6 +1,5 @@
-// The checks of an order (01, the replies of 'Placing': 15, 5, 1, 6, 3, 8), and its durations for a caller that has checked nothing.
+// The checks of an order (01, the replies of 'Placing': 15, 5, 1, 6, 3, 8).
 use activity::Activity;
-use activity::DurationAnswer;
 use calendar::limits::LAST_INSTANT;
 
 mod range;
@@ -13,7 +12,7 @@ use range::timings_short;
 use range::usages_right;
 use speed::speeds_right;
 ghost use mathlib.Core.Path.{_≡_};
-ghost use Rattle.activity.specs.Check.{activityRefusal, checkReply, heldRight, replyOf, durationReply};
+ghost use Rattle.activity.specs.Check.{activityRefusal, checkReply};
 
 // The number with which the order is refused, 0 for none: 5 category, 1 ready, release or a duration, 6 requirements or their
 // quantities, 3 usage, 8 a speed. Each over the whole order before the next.
@@ -62,41 +61,4 @@ pub fn check(activity: Activity, ready: u64) -> u8
         return 15;
     }
     refusal(activity, ready)
-}
-
-// At most eight numbers are held, each of a resource.
-fn held_right(held: [u8; 8], count: usize) -> bool
-    ensures { λ r. ⌜ r ≡ heldRight held count ⌝ }
-{
-    if count > 8 {
-        return false;
-    }
-    let mut i: usize = 0;
-    while i < count {
-        if held[i] > 15 {
-            return false;
-        }
-        i += 1;
-    }
-    true
-}
-
-// The order's durations over the first `count` resources held, or a refusal: 15 its calendar, 5 the numbers held, then as
-// `refusal` at ready 0.
-pub fn duration_on(activity: Activity, held: [u8; 8], count: usize) -> DurationAnswer
-    ensures { λ r. ⌜ replyOf r ≡ durationReply activity held count ⌝ }
-{
-    if !calendar::is_valid(activity.calendar) {
-        return DurationAnswer::Refused(15);
-    }
-    if !held_right(held, count) {
-        return DurationAnswer::Refused(5);
-    }
-    let n = refusal(activity, 0);
-    if n != 0 {
-        return DurationAnswer::Refused(n);
-    }
-    let base = activity.duration;
-    let timings = activity.timings;
-    DurationAnswer::Lasts(activity::core::duration_on(base, timings, held, count))
 }

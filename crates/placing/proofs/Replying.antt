@@ -2,7 +2,7 @@
 use mathlib.Core.Path.{_≡_, refl, sym, ap, _∙_}
 use mathlib.Core.Bool.{true, false}
 use mathlib.Core.List.{List, [], _∷_}
-use Prim.Native.Nat.{ℕ, zero, suc, _≤_}
+use Prim.Native.Nat.{ℕ, zero, suc, _^_, _≤_}
 use native.Mathlib.Omega.{arith}
 use lib.ListN.{length, take}
 use Rattle.activity.specs.declared.ResourceRequirement.{ResourceRequirement}
@@ -13,15 +13,16 @@ use Rattle.activity.proofs.Judging.{accepted, accepted-is}
 use Rattle.activity.proofs.Meaning.{ready-range}
 use Rattle.board.specs.declared.Board.{Board}
 use Rattle.board.specs.Valid.{valid}
+use Rattle.scheduler.specs.declared.Entry.{Entry}
 use Rattle.scheduler.specs.Alone.{spanOf}
 use Rattle.scheduler.specs.Choosing.{Held, Choice, noChoice, chosen, choosing}
 use Rattle.scheduler.specs.Fitting.{entriesOf, spanTogether}
-use Rattle.scheduler.specs.Placing.{Reply, none, refused, fitted, fitChosen, timeOnly, byRequirements, placing, placeReply}
+use Rattle.scheduler.specs.Placing.{none, refused, fitted, fitChosen, timeOnly, byRequirements, placing, placeReply}
 use Rattle.calendar.specs.Refusals.{refusedOr, refused-by}
 use Rattle.scheduler.specs.Holds.{heldTo}
-use Rattle.choosing.specs.declared.Choice as code
-use Rattle.choosing.specs.Rounds.{choiceOf}
-use Rattle.placing.specs.Steps.{orderRefusal}
+use Rattle.rounds.specs.declared.Choice as code
+use Rattle.rounds.specs.Rounds.{choiceOf}
+use Rattle.placing.specs.Steps.{EntriesOn, orderRefusal}
 use Rattle.placing.proofs.Telling.{refusal-off, refusal-15}
 
 -- the order from its release on is not refused either
@@ -83,6 +84,13 @@ first-one a h l = go (a .len) (a .requirements) h (omega (arith, l))
     go zero rs f m = absurd (f refl)
     go (suc n) [] f m = absurd (omega arith)
     go (suc n) (r ∷ rs) f m = (r, take n rs, refl)
+
+-- the instant, the span and the n entries with which the reply of an order goes on
+pub record Stands (b : Board) (a : Activity) (ready slate t span : ℕ) (es : List Entry) (n : ℕ) : Type 0 where
+  pub entries : EntriesOn b es n
+  pub instant : t ≤ 2 ^ 43
+  pub short : span ≤ 2 ^ 53
+  pub reply : placeReply b a ready slate ≡ fitted b a span t (take n es)
 
 -- what the code chose
 module _ (b : Board) (r : code.Choice) (f : Choice) (e : choiceOf b r ≡ f) where

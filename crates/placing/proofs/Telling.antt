@@ -2,7 +2,7 @@
 use mathlib.Core.Path.{_≡_, refl, sym, ap, _∙_}
 use mathlib.Core.Bool.{Bool, true, false, not, cond}
 use mathlib.Core.List.{List, [], _∷_, _++_, map}
-use Prim.Native.Nat.{ℕ, suc, _+_, _-_, _^_, _≤_, max}
+use Prim.Native.Nat.{ℕ, suc, _+_, _-_, _≤_, max}
 use native.Mathlib.Omega.{arith}
 use borrow.Author.Tests.{not-false, ltb-false}
 use lib.ListN.{length, drop}
@@ -10,7 +10,7 @@ use lib.Dec.{ltb}
 use Rattle.calendar.specs.Basics.{unrefused}
 use Rattle.calendar.specs.declared.Calendar.{Calendar}
 use Rattle.calendar.specs.Valid as calendar
-use Rattle.calendar.specs.Meaning.{least-found, least-same}
+use Rattle.calendar.specs.Meaning.{least-same}
 use Rattle.calendar.specs.Search.{Found, nothing, at, leastFrom}
 use Rattle.calendar.specs.Work.{lastChange, jointEnd}
 use Rattle.timeline.specs.Ask as asking
@@ -23,12 +23,10 @@ use Rattle.activity.specs.Check.{activityRefusal}
 use Rattle.board.specs.declared.Board.{Board}
 use Rattle.board.specs.Valid.{valid}
 use Rattle.scheduler.specs.declared.Entry.{Entry}
-use Rattle.scheduler.specs.Alone.{Share, allStart, lastOf, earliestOf}
+use Rattle.scheduler.specs.Alone.{Share, lastOf, earliestOf}
 use Rattle.scheduler.specs.Fitting.{calendarOf, sharesOf, suits, lastAll, fitting, endOf}
 use Rattle.scheduler.specs.Placing as placement
 use Rattle.scheduler.specs.Placing.{Reply, placed, chosenNone, started, fitted, placeRefusal, rowOf, slateAfter}
-use Rattle.scheduler.specs.Latest.{last-small}
-use Rattle.scheduler.specs.Together.{Sound}
 use Rattle.scheduler.specs.Owning.{ownShare, suitsOn, suits-on}
 use Rattle.fitting.specs.Jointly.{jointly, ended}
 use Rattle.timeline.specs.Ask.{unbroken}
@@ -80,11 +78,6 @@ module _ (a : Activity) (xs : List Share) (span t : ℕ) (es : List Entry) where
   closing-reply true = resumed (jointly ys span t) ∙ ap (started true xs a span t es) (sym (fitting-on true xs (a .calendar) span t))
   closing-reply false = whole (earliestOf false span ys t) ∙ ap (started false xs a span t es) (sym (fitting-on false xs (a .calendar) span t))
 
--- an unbroken start on several diaries lies at the instant asked from, or by 2^42
-pub start-soon : (xs : List Share) (span from s : ℕ) → Sound xs → earliestOf false span xs from ≡ at s → s ≤ max from (2 ^ 42)
-unfolding earliestOf
-start-soon xs span from s sound e = omega (arith, least-found (allStart false span xs) from (suc (lastOf xs - from)) s e .high, last-small xs sound)
-
 -- the refusals of a board that keeps the rules are those of the order and the slate
 pub refusal-off : (b : Board) (a : Activity) (ready slate : ℕ) → valid b ≡ true → placeRefusal b a ready slate ≡ orderRefusal a ready slate
 unfolding placeRefusal orderRefusal
@@ -103,10 +96,10 @@ order-right a ready slate e =
     (not-false (calendar.valid (a .calendar)) (x .0), ltb-false slate 24 (y .0), y .1)
 
 -- what the closing fit answers is the definition's reply
-module _ (b : Board) (a : Activity) (span t : ℕ) (es : List Entry) (n : ℕ) (long : length es ≡ n) (zs : List Share) (own : zs ≡ ownShare (a .calendar) ∷ sharesOf b es) (r : asking.Reply) (e : r ≡ closing (a .resumable) zs span t) (slate : List (List ℕ)) where
+module _ (b : Board) (a : Activity) (span t : ℕ) (es : List Entry) (n : ℕ) (long : length es ≡ n) (r : asking.Reply) (e : r ≡ closing (a .resumable) (ownShare (a .calendar) ∷ sharesOf b es) span t) (slate : List (List ℕ)) where
   fitted-is : fitted b a span t es ≡ replyFrom t es r
   unfolding fitted
-  fitted-is = sym (ap (replyFrom t es) (e ∙ ap (λ (ys : List Share). closing (a .resumable) ys span t) own) ∙ closing-reply a (sharesOf b es) span t es (a .resumable))
+  fitted-is = sym (ap (replyFrom t es) e ∙ closing-reply a (sharesOf b es) span t es (a .resumable))
 
   pub fitted-placed : (s d : ℕ) → r ≡ asking.fit s d → (Placed t s d n ≡ told (fitted b a span t es)) × (map rowOf es ++ drop n slate ≡ slateAfter (fitted b a span t es) slate)
   unfolding replyFrom told slateAfter

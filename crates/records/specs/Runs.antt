@@ -17,7 +17,7 @@ use Rattle.timeline.specs.Diary.{capacityOf, insertBooking, latestEnds, diary}
 use Rattle.timeline.specs.Book.{bookRefusal, taken, bookReply}
 use Rattle.timeline.specs.Ask.{unbroken, askRefusal, asked}
 use Rattle.calendar.specs.Refusals.{refusedOr}
-use Rattle.streams.specs.Text.{decimalTo}
+use Rattle.texts.specs.Text.{decimalTo}
 use Rattle.slot_text.specs.Numbers.{little}
 use Rattle.slot_text.specs.Lines.{textOf}
 use Rattle.records.specs.Records.{bodyLen, books, asks, recordDoes, turnReply}

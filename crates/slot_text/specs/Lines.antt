@@ -4,7 +4,7 @@ use mathlib.Core.List.{List, [], _∷_, _++_}
 use Rattle.timeline.specs.Ask.{Reply, fit, none, refused}
 use Rattle.slot_text.specs.declared.Line.{Line}
 use Rattle.slot_text.specs.declared.Line.the-variants.{Nothing, Fit, None, Refused}
-use Rattle.streams.specs.Text.{decimal}
+use Rattle.texts.specs.Text.{decimal}
 
 -- nothing, or a line: `fit START END`, `none`, `refused N`
 pub data Printed : Type 0 where

@@ -1,11 +1,11 @@
 // The lines that records print, as bytes (01, 'Program slot').
 use crate::Line;
-use streams::put;
-use streams::put_number;
-use streams::put_value;
+use texts::put;
+use texts::put_number;
+use texts::put_value;
 ghost use Prim.Native.Nat.{_+_, _≤_};
 ghost use lib.ListN.{length};
-ghost use Rattle.streams.specs.Text.{Put};
+ghost use Rattle.texts.specs.Text.{Put};
 ghost use Rattle.slot_text.specs.Lines.{lineOf, textOf, line as printed};
 ghost use Rattle.timeline.specs.Ask.{fit, refused};
 

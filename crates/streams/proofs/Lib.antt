@@ -1,4 +1,2 @@
 -- Laws on plain lists, for the proofs of this crate.
 pub mod Moving
-pub mod Figures
-pub mod Pasting

@@ -10,7 +10,7 @@ use lib.ListN.{getD}
 use lib.Dec.{ltb}
 use borrow.Author.Tests.{lt-ltb, ltb-true}
 use Rattle.calendar.specs.Basics.{no-way, and-split}
-use Rattle.joint.specs.Sweep.{Rising}
+use Rattle.work_ends.specs.Layout.{Rising}
 use Rattle.timeline.specs.declared.ResourceTimeline.{ResourceTimeline}
 use Rattle.timeline.specs.Bookings.{Booking, bookingAt, bookingsTo, bookings, latestEnd}
 use Rattle.timeline.specs.Valid.{before}

@@ -37,7 +37,10 @@ unfoldable pub emptyFrom : ResourceTimeline → ℕ → ℕ → Bool
 emptyFrom t i zero = true
 emptyFrom t i (suc k) = emptyAt t i && emptyFrom t (suc i) k
 
+-- the cells: those up to the length filled, those past it empty, and the booked total
+abbrev pub cellsRight : ResourceTimeline → Bool
+cellsRight t = filledFrom t 0 (t .len) && (emptyFrom t (t .len) (64 - t .len) && eqb (t .booked) (total (bookings t)))
+
 unfoldable pub valid : ResourceTimeline → Bool
 valid t =
-    calendar.valid (t .calendar) && (leb 1 (t .capacity) && (ltb (t .capacity) (2 ^ 31) && (leb (t .len) mostBookings
-    && (filledFrom t 0 (t .len) && (emptyFrom t (t .len) (64 - t .len) && eqb (t .booked) (total (bookings t)))))))
+    calendar.valid (t .calendar) && (leb 1 (t .capacity) && (ltb (t .capacity) (2 ^ 31) && (leb (t .len) mostBookings && cellsRight t)))

@@ -9,8 +9,7 @@ mod insert;
 ghost use mathlib.Core.Path.{_≡_};
 ghost use mathlib.Core.Bool.{true};
 ghost use Prim.Native.Nat.{_-_, _^_, _≤_, _<_};
-ghost use Rattle.timeline.specs.Bookings.{bookings, total};
-ghost use Rattle.timeline.specs.Valid.{cellRight, cellEmpty, filledFrom, emptyFrom, valid};
+ghost use Rattle.timeline.specs.Valid.{cellRight, cellEmpty, cellsRight, valid};
 ghost use Rattle.timeline.specs.Diary.{capacityOf, newDiary};
 ghost use Rattle.timeline.specs.Book.{bookReply, bookRefusal};
 
@@ -70,57 +69,37 @@ fn cell_empty(s: u64, e: u64, u: u32, l: u64) -> bool
     l == 0
 }
 
-// The filled cells keep the rules.
-fn filled(t: ResourceTimeline) -> bool
+// The filled cells keep the rules, those past the length are empty, and the booked total is that of the cells: in one function, so that
+// the diary is copied once.
+fn cells_right(t: ResourceTimeline) -> bool
     requires { ⌜ t .len ≤ 64 ⌝ }
-    ensures { λ r. ⌜ r ≡ filledFrom t 0 (t .len) ⌝ }
+    ensures { λ r. ⌜ r ≡ cellsRight t ⌝ }
 {
     let len = t.len;
     let mut ps: u64 = 0;
     let mut pl: u64 = 0;
+    let mut sum: u64 = 0;
     let mut i: usize = 0;
     while i < len {
         let s = t.starts[i];
+        let e = t.ends[i];
+        let u = t.units[i];
         let l = t.latest[i];
-        if !cell_right(s, t.ends[i], t.units[i], l, ps, pl) {
+        if !cell_right(s, e, u, l, ps, pl) {
             return false;
         }
+        sum += (e - s) * (u as u64);
         ps = s;
         pl = l;
         i += 1;
     }
-    true
-}
-
-// The cells past the length are empty.
-fn empty(t: ResourceTimeline) -> bool
-    requires { ⌜ t .len ≤ 64 ⌝ }
-    ensures { λ r. ⌜ r ≡ emptyFrom t (t .len) (64 - t .len) ⌝ }
-{
-    let mut i = t.len;
     while i < 64 {
         if !cell_empty(t.starts[i], t.ends[i], t.units[i], t.latest[i]) {
             return false;
         }
         i += 1;
     }
-    true
-}
-
-// The booked total of the cells.
-fn sum(t: ResourceTimeline) -> u64
-    requires { ⌜ t .len ≤ 64 ⌝ }
-    requires { ⌜ filledFrom t 0 (t .len) ≡ true ⌝ }
-    ensures { λ r. ⌜ r ≡ total (bookings t) ⌝ }
-{
-    let len = t.len;
-    let mut sum: u64 = 0;
-    let mut i: usize = 0;
-    while i < len {
-        sum += (t.ends[i] - t.starts[i]) * (t.units[i] as u64);
-        i += 1;
-    }
-    sum
+    t.booked == sum
 }
 
 // The diary keeps the rules.
@@ -139,13 +118,7 @@ pub fn is_valid(t: ResourceTimeline) -> bool
     if t.len > 64 {
         return false;
     }
-    if !filled(t) {
-        return false;
-    }
-    if !empty(t) {
-        return false;
-    }
-    t.booked == sum(t)
+    cells_right(t)
 }
 
 // A given capacity, and at least 1.

@@ -3,7 +3,7 @@ use borrow.Author.Needs.{needs}
 use borrow.Author.Tests.{not-true, not-false}
 use mathlib.Core.Path.{sym, ap, _∙_}
 use Prim.Native.Nat.{_-_}
-use Rattle.joint.specs.Layout.{foundOf}
+use Rattle.work_ends.specs.Layout.{foundOf}
 use Rattle.asks.specs.Answers.{replyOf}
 use Rattle.earliest.proofs.Finding.{asked-15, asked-refused, asked-reply, lawful, ended-at, ended-none}
 use Rattle.asks.proofs.earliest_resumable.Statement.{statement}

@@ -1,9 +1,8 @@
 -- `board_diaries::timeline_of` meets its contract.
 use borrow.Author.Needs.{needs}
 use native.Mathlib.Omega.{arith}
-use Rattle.matrices.proofs.Finding.{found-below}
-use Rattle.matrices.proofs.Replying.{entry-at}
-use Rattle.entering.proofs.Replying.{looked-refused, looked-taken}
+use Rattle.resource_numbers.proofs.Finding.{found-below, entry-at}
+use Rattle.board_diaries.proofs.Replying.{looked-refused, looked-taken}
 use Rattle.board_diaries.proofs.timeline_of.Statement.{statement}
 use Rattle.board_diaries.proofs.timeline_of.Tie as tie
 

@@ -4,7 +4,7 @@ use mathlib.Core.Path.{_≡_, sym}
 use Prim.Native.Nat.{ℕ, _+_, _-_, _*_, _^_, _≤_, _<_}
 use native.Mathlib.Omega.{arith}
 use lib.ListN.{length}
-use Rattle.joint.specs.Layout.{Edges}
+use Rattle.work_ends.specs.Layout.{Edges}
 use native.Mathlib.Nat.{mul-le-mul-right}
 use Rattle.calendar_runs.proofs.round.Statement.{statement}
 use Rattle.calendar_runs.proofs.round.Tie as tie

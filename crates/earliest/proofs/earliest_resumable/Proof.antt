@@ -1,5 +1,5 @@
 -- `earliest::earliest_resumable` meets its contract.
-use Rattle.joint.specs.Layout.{foundOf}
+use Rattle.work_ends.specs.Layout.{foundOf}
 use Rattle.earliest.proofs.Finding.{start-above, resumed-none}
 use Rattle.earliest.proofs.earliest_resumable.Statement.{statement}
 use Rattle.earliest.proofs.earliest_resumable.Tie as tie

@@ -7,7 +7,7 @@ use mathlib.Core.Logic.{⊎-elim}
 use Prim.Native.Nat.{ℕ, _+_, _-_, _≤_, _<_}
 use native.Mathlib.Omega.{arith}
 use lib.ListN.{length, getD}
-use Rattle.joint.specs.Layout.{foundOf}
+use Rattle.work_ends.specs.Layout.{foundOf}
 use Rattle.timeline.specs.Bookings.{bookingsTo}
 use Rattle.timeline.proofs.Rules.{rules}
 use Rattle.timeline.proofs.Columns.{columns}

@@ -3,7 +3,7 @@ use borrow.Author.Needs.{needs}
 use borrow.Author.Tests.{not-true, not-false}
 use mathlib.Core.Path.{sym, _∙_}
 use native.Mathlib.Omega.{arith}
-use Rattle.entering.proofs.Entering.{on-is}
+use Rattle.resource_numbers.proofs.Standing.{on-is}
 use Rattle.entering.proofs.Replying.{add-15, add-diary, add-number, add-companion, add-there, add-many, add-0}
 use Rattle.entering.proofs.add_refusal.Statement.{statement}
 use Rattle.entering.proofs.add_refusal.Tie as tie

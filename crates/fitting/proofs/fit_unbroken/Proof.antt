@@ -1,41 +1,121 @@
 -- `fitting::fit_unbroken` meets its contract. The loop: nothing suits all before the instant at hand, and that suits those asked (Asking).
+use borrow.Author.Needs.{needs}
 use Rattle.fitting.proofs.fit_unbroken.Statement.{statement}
 use Rattle.fitting.proofs.fit_unbroken.Tie as tie
-use mathlib.Core.Path.{sym, ap, _∙_}
+use mathlib.Core.Path.{_≡_, refl, sym, ap, _∙_}
 use mathlib.Core.Bool.{false}
-use Prim.Native.Nat.{_+_, _-_, _*_, _^_}
+use mathlib.Core.List.{List, _∷_}
+use mathlib.Core.Logic.{⊎-elim}
+use Prim.Native.Nat.{ℕ, _+_, _-_, _*_, _^_}
 use native.Mathlib.Omega.{arith}
-use borrow.Author.Needs.{needs}
+use lib.ListN.{getD, take, length-map}
+use Rattle.calendar.specs.declared.Calendar.{Calendar}
+use Rattle.calendar.specs.Search.{Found, nothing, at}
+use Rattle.timeline.specs.declared.ResourceTimeline.{ResourceTimeline}
+use Rattle.timeline.specs.Earliest.{earliestFit}
+use Rattle.timeline.specs.Ask.{unbroken}
 use Rattle.earliest.specs.Steps.{startOf}
+use Rattle.board.specs.declared.Board.{Board}
+use Rattle.board.specs.Resources.{noDiary}
+use Rattle.scheduler.specs.declared.Entry.{Entry}
+use Rattle.scheduler.specs.Alone.{Share, earliestOf}
+use Rattle.scheduler.specs.Fitting.{sharesOf}
+use Rattle.scheduler.specs.Shares.{startOn, shareAt, sharesTo}
+use Rattle.scheduler.specs.Owning.{ownShare}
 use Rattle.scheduler.specs.Asking.{Asked, asked-start, asked-on, asked-none, asked-less, asked-all}
+use Rattle.fitting.specs.Jointly.{fitOf}
+use Rattle.fitting.proofs.Reading.{Asks, diaries, wants, asks-own, asks-shares, asks-wanted, number-small, place-small, read-diary, read-units, own-diary, own-units}
 
 abbrev Inv-loop : tie.InvT-loop
-Inv-loop span from g n t₀ i₀ t i = Asked false span (g .timelines) (g .units) (g .len) from t i
+Inv-loop span from b e places first n t₀ i₀ t i =
+    Asks b (e .entries) (e .count) places first × (n ≡ e .count + 1) × Asked false span (diaries b (e .entries) (e .count) first) (wants b (e .entries) (e .count) first) (e .count + 1) from t i
 
 abbrev μ-loop : tie.MeasureT-loop
-μ-loop span from g n t₀ i₀ t i = (2 ^ 43 - t) * 32 + (g .len - i)
+μ-loop span from b e places first n t₀ i₀ t i = (2 ^ 43 - t) * 32 + (e .count + 1 - i)
+
+start-read : (d : ResourceTimeline) (u t span : ℕ) (ts : List ResourceTimeline) (us : List ℕ) (i : ℕ) → d ≡ getD ts i noDiary → u ≡ getD us i 0 → (f : Found) → earliestFit d t span u ≡ f → startOn false span (shareAt ts us i) t ≡ f
+unfolding startOn
+start-read d u t span ts us i p q f e = rw (← p, ← q) e
+
+answered : (span from : ℕ) (b : Board) (es : List Entry) (n : ℕ) (first : ResourceTimeline) (places : List ℕ) → Asks b es n places first → (own : Calendar) → first ≡ ownShare own .timeline → (f : Found) → f ≡ earliestOf false span (sharesTo (diaries b es n first) (wants b es n first) (n + 1)) from → unbroken span f ≡ unbroken span (earliestOf false span (ownShare own ∷ sharesOf b (take n es)) from)
+answered span from b es n first places a own e f h = ap (unbroken span) (h ∙ ap (λ (xs : List Share). earliestOf false span xs from) (asks-shares b es n first places a own e))
+
+own-timeline-requires : tie.Need-own-timeline-requires Inv-loop μ-loop
+own-timeline-requires c κs = search needs
+
+add-n : tie.Need-add-n Inv-loop μ-loop
+add-n c = search needs
 
 loop-holds : tie.Need-loop-holds Inv-loop μ-loop
-loop-holds c = asked-start _ _ _ _ _ _ (c .pre .2)
+loop-holds c =
+    let q = c .before .pre in
+    let a = c .before .args in
+    let asks = asks-own (a .t1) (a .t2 .entries) (a .t2 .count) (a .t3) (a .own) _ (c .own-timeline .ensures) (q .0 .0) (q .0 .1) (q .0 .2) (q .0 .3) (simp length-map at (c .before .good .1 .0 .1 .1 .0 .1 .0 .1)) (q .1) in
+    (asks, refl, asked-start _ _ _ _ _ _ (q .0 .4))
 
-mul-d : tie.Need-mul-d Inv-loop μ-loop
-mul-d c = search needs
+sub-x : tie.Need-sub-x Inv-loop μ-loop
+sub-x c = search needs
 
-element-copy-out-d : tie.Need-element-copy-out-d Inv-loop μ-loop
-element-copy-out-d c = search needs
+mul-x : tie.Need-mul-x Inv-loop μ-loop
+mul-x c = search needs
 
-mul-start-on : tie.Need-mul-start-on Inv-loop μ-loop
-mul-start-on c = search needs
+element-copy-out-x : tie.Need-element-copy-out-x Inv-loop μ-loop
+element-copy-out-x c = search needs
 
-element-copy-out-start-on : tie.Need-element-copy-out-start-on Inv-loop μ-loop
-element-copy-out-start-on c = search needs
+cast-r : tie.Need-cast-r Inv-loop μ-loop
+cast-r c = search needs
 
-start-on-requires : tie.Need-start-on-requires Inv-loop μ-loop
-start-on-requires c κs =
-    let p = c .before .before .before .before .pre in
-    let k = c .before .before .before .loop in
-    let l = c .before .before .loop-test .taken in
-    (p .1 .kept (k .i) l, k .inv .range, p .3, p .1 .some (k .i) l)
+mul-r : tie.Need-mul-r Inv-loop μ-loop
+mul-r c = search needs
+
+array-read-r : tie.Need-array-read-r Inv-loop μ-loop
+array-read-r c =
+    let a = c .before .before .before .before .before .before .args in
+    let k = c .before .before .before .before .loop in
+    let l = c .before .before .before .loop-test .taken in
+    let first = c .before .before .before .before .before .own-timeline .result in
+    let p = c .before .before .if1 .taken in
+    number-small (a .t1) (a .t2 .entries) (a .t2 .count) first (a .t3) (k .inv .0) (k .i) p l
+
+mul-r-2 : tie.Need-mul-r-2 Inv-loop μ-loop
+mul-r-2 c =
+    let a = c .before .before .before .before .before .before .args in
+    let k = c .before .before .before .before .loop in
+    let l = c .before .before .before .loop-test .taken in
+    let first = c .before .before .before .before .before .own-timeline .result in
+    let p = c .before .before .if1 .taken in
+    let small = place-small (a .t1) (a .t2 .entries) (a .t2 .count) first (a .t3) (k .inv .0) (k .i) p l in
+    search needs
+
+element-copy-out-r : tie.Need-element-copy-out-r Inv-loop μ-loop
+element-copy-out-r c =
+    let a = c .before .before .before .before .before .before .args in
+    let k = c .before .before .before .before .loop in
+    let l = c .before .before .before .loop-test .taken in
+    let first = c .before .before .before .before .before .own-timeline .result in
+    let p = c .before .before .if1 .taken in
+    place-small (a .t1) (a .t2 .entries) (a .t2 .count) first (a .t3) (k .inv .0) (k .i) p l
+
+joined : (c : tie.Joined1 Inv-loop μ-loop) → (c .if1 .d ≡ getD (diaries (c .before .before .before .before .args .t1) (c .before .before .before .before .args .t2 .entries) (c .before .before .before .before .args .t2 .count) (c .before .before .before .own-timeline .result)) (c .before .before .loop .i) noDiary) × (c .if1 .units ≡ getD (wants (c .before .before .before .before .args .t1) (c .before .before .before .before .args .t2 .entries) (c .before .before .before .before .args .t2 .count) (c .before .before .before .own-timeline .result)) (c .before .before .loop .i) 0)
+joined c =
+    let a = c .before .before .before .before .args in
+    let k = c .before .before .loop in
+    let l = c .before .loop-test .taken in
+    let first = c .before .before .before .own-timeline .result in
+    ⊎-elim
+    (λ w. (w .6 ∙ read-diary (a .t1) (a .t2 .entries) (a .t2 .count) first (a .t3) (k .inv .0) (k .i) (w .0 .taken) l, w .5 ∙ read-units (a .t1) (a .t2 .entries) (a .t2 .count) first (a .t3) (k .inv .0) (k .i) (w .0 .taken) l))
+    (λ w. (w .2 ∙ own-diary (a .t1) (a .t2 .entries) (a .t2 .count) first (a .t3) (k .inv .0) (k .i) (w .0 .left), w .1 ∙ own-units (a .t1) (a .t2 .entries) (a .t2 .count) first (a .t3) (k .inv .0) (k .i) (w .0 .left)))
+    (c .if1 .came)
+
+earliest-fit-requires : tie.Need-earliest-fit-requires Inv-loop μ-loop
+earliest-fit-requires c κs =
+    let a = c .before .before .before .before .args in
+    let k = c .before .before .loop in
+    let l = c .before .loop-test .taken in
+    let first = c .before .before .before .own-timeline .result in
+    let w = asks-wanted (a .t1) (a .t2 .entries) (a .t2 .count) first (a .t3) (k .inv .0) in
+    let j = joined c in
+    ((rw (j .0) (w .kept (k .i) l), k .inv .2 .range, c .before .before .before .before .pre .0 .5), rw (j .1) (w .some (k .i) l))
 
 enum-known-s : tie.Need-enum-known-s Inv-loop μ-loop
 enum-known-s c = search needs
@@ -47,39 +127,65 @@ loop-less : tie.Need-loop-less Inv-loop μ-loop
 unfolding startOf
 loop-less c =
     let a = c .before .before .before .before .before .before .before .before .before .args in
-    let p = c .before .before .before .before .before .before .before .before .before .pre in
-    let k = c .before .before .before .before .before .before .before .before .loop in
+    let k = c .before .before .before .before .before .before .before .loop in
+    let l = c .before .before .before .before .before .before .loop-test .taken in
+    let first = c .before .before .before .before .before .before .before .before .own-timeline .result in
+    let j = joined (c .before .before .before .before .before) in
     let s = c .before .before .s .given in
-    let e = sym (c .before .before .before .before .start-on .ensures) ∙ ap startOf (s .1) in
-    rw (c .next-asked .ensures) (asked-less false (a .span) (a .t1 .timelines) (a .t1 .units) (a .t1 .len) (a .from) (k .t) (k .i) (p .1) (k .inv) (c .before .before .before .before .before .before .before .loop-test .taken) (s .0 .0) (omega (arith, p .0)) e)
+    let ts = diaries (a .t1) (a .t2 .entries) (a .t2 .count) first in
+    let us = wants (a .t1) (a .t2 .entries) (a .t2 .count) first in
+    let e = start-read _ _ (k .t) (a .span) ts us (k .i) (j .0) (j .1) _ (sym (c .before .before .before .before .earliest-fit .ensures) ∙ ap startOf (s .1)) in
+    let w = asks-wanted (a .t1) (a .t2 .entries) (a .t2 .count) first (a .t3) (k .inv .0) in
+    rw (c .next-asked .ensures) (asked-less false (a .span) ts us (a .t2 .count + 1) (a .from) (k .t) (k .i) w (k .inv .2) l (s .0 .0) (omega (arith, k .inv .0 .few)) e)
 
 loop-again : tie.Need-loop-again Inv-loop μ-loop
 unfolding startOf
 loop-again c =
     let a = c .before .before .before .before .before .before .before .before .before .args in
-    let p = c .before .before .before .before .before .before .before .before .before .pre in
-    let k = c .before .before .before .before .before .before .before .before .loop in
+    let k = c .before .before .before .before .before .before .before .loop in
+    let l = c .before .before .before .before .before .before .loop-test .taken in
+    let first = c .before .before .before .before .before .before .before .before .own-timeline .result in
+    let j = joined (c .before .before .before .before .before) in
     let s = c .before .before .s .given in
-    let e = sym (c .before .before .before .before .start-on .ensures) ∙ ap startOf (s .1) in
-    rw (c .next-asked .ensures) (asked-on false (a .span) (a .t1 .timelines) (a .t1 .units) (a .t1 .len) (a .from) (k .t) (k .i) (p .1) (k .inv) (c .before .before .before .before .before .before .before .loop-test .taken) (s .0 .0) e)
+    let ts = diaries (a .t1) (a .t2 .entries) (a .t2 .count) first in
+    let us = wants (a .t1) (a .t2 .entries) (a .t2 .count) first in
+    let e = start-read _ _ (k .t) (a .span) ts us (k .i) (j .0) (j .1) _ (sym (c .before .before .before .before .earliest-fit .ensures) ∙ ap startOf (s .1)) in
+    let w = asks-wanted (a .t1) (a .t2 .entries) (a .t2 .count) first (a .t3) (k .inv .0) in
+    (k .inv .0, refl, rw (c .next-asked .ensures) (asked-on false (a .span) ts us (a .t2 .count + 1) (a .from) (k .t) (k .i) w (k .inv .2) l (s .0 .0) e))
 
 enum-told : tie.Need-enum-told Inv-loop μ-loop
 enum-told c = search needs
 
 returns : tie.Need-returns Inv-loop μ-loop
-unfolding startOf
+unfolding startOf fitOf unbroken
 returns c =
     let a = c .before .before .before .before .before .before .before .args in
-    let k = c .before .before .before .before .before .before .loop in
-    let e = sym (c .before .before .start-on .ensures) ∙ ap startOf (c .enum-told .given .1) in
-    asked-none false (a .span) (a .t1 .timelines) (a .t1 .units) (a .t1 .len) (a .from) (k .t) (k .i) (c .before .before .before .before .before .before .before .pre .1) (k .inv) (c .before .before .before .before .before .loop-test .taken) e
+    let k = c .before .before .before .before .before .loop in
+    let l = c .before .before .before .before .loop-test .taken in
+    let first = c .before .before .before .before .before .before .own-timeline .result in
+    let j = joined (c .before .before .before) in
+    let ts = diaries (a .t1) (a .t2 .entries) (a .t2 .count) first in
+    let us = wants (a .t1) (a .t2 .entries) (a .t2 .count) first in
+    let e = start-read _ _ (k .t) (a .span) ts us (k .i) (j .0) (j .1) _ (sym (c .before .before .earliest-fit .ensures) ∙ ap startOf (c .enum-told .given .1)) in
+    let w = asks-wanted (a .t1) (a .t2 .entries) (a .t2 .count) first (a .t3) (k .inv .0) in
+    answered (a .span) (a .from) (a .t1) (a .t2 .entries) (a .t2 .count) first (a .t3) (k .inv .0) (a .own) (c .before .before .before .before .before .before .own-timeline .ensures) nothing (asked-none false (a .span) ts us (a .t2 .count + 1) (a .from) (k .t) (k .i) w (k .inv .2) l e)
+
+add-t36 : tie.Need-add-t36 Inv-loop μ-loop
+add-t36 c =
+    let a = c .before .before .before .args in
+    let k = c .before .loop in
+    let l = c .loop-test .left in
+    let first = c .before .before .own-timeline .result in
+    omega (arith, k .inv .2 .range, c .before .before .before .pre .0 .5)
 
 returns-2 : tie.Need-returns-2 Inv-loop μ-loop
-unfolding startOf
+unfolding fitOf unbroken
 returns-2 c =
-    let a = c .before .before .args in
+    let a = c .before .before .before .args in
     let k = c .before .loop in
-    asked-all false (a .span) (a .t1 .timelines) (a .t1 .units) (a .t1 .len) (a .from) (k .t) (k .i) (c .before .before .pre .1) (k .inv) (omega arith)
+    let l = c .loop-test .left in
+    let first = c .before .before .own-timeline .result in
+    answered (a .span) (a .from) (a .t1) (a .t2 .entries) (a .t2 .count) first (a .t3) (k .inv .0) (a .own) (c .before .before .own-timeline .ensures) (at (k .t)) (asked-all false (a .span) (diaries (a .t1) (a .t2 .entries) (a .t2 .count) first) (wants (a .t1) (a .t2 .entries) (a .t2 .count) first) (a .t2 .count + 1) (a .from) (k .t) (k .i) (asks-wanted (a .t1) (a .t2 .entries) (a .t2 .count) first (a .t3) (k .inv .0)) (k .inv .2) l)
 
 pub fit-unbroken-spec : {M : Type 1} → statement M
 fit-unbroken-spec =
@@ -87,16 +193,23 @@ fit-unbroken-spec =
     (tie.spec
     Inv-loop
     μ-loop
+    own-timeline-requires
+    add-n
     loop-holds
-    mul-d
-    element-copy-out-d
-    mul-start-on
-    element-copy-out-start-on
-    start-on-requires
+    sub-x
+    mul-x
+    element-copy-out-x
+    cast-r
+    mul-r
+    array-read-r
+    mul-r-2
+    element-copy-out-r
+    earliest-fit-requires
     enum-known-s
     next-asked-requires
     loop-less
     loop-again
     enum-told
     returns
+    add-t36
     returns-2)

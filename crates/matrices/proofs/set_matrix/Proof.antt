@@ -5,8 +5,8 @@ use mathlib.Core.Path.{refl, sym, _∙_}
 use native.Mathlib.Omega.{arith}
 use mir.Syntax.{w64}
 use mir.ValLaws.{toZ-ofZ}
-use Rattle.matrices.proofs.Finding.{found-below}
-use Rattle.matrices.proofs.Replying.{entry-at, matrix-refused, matrix-wrong, matrix-taken}
+use Rattle.resource_numbers.proofs.Finding.{found-below, entry-at}
+use Rattle.matrices.proofs.Replying.{matrix-refused, matrix-wrong, matrix-taken}
 use Rattle.matrices.proofs.set_matrix.Statement.{statement}
 use Rattle.matrices.proofs.set_matrix.Tie as tie
 

@@ -6,8 +6,8 @@ use native.Mathlib.Omega.{arith}
 use mir.Syntax.{w64}
 use mir.ValLaws.{toZ-ofZ}
 use Rattle.board.specs.Enter.{setTransitionReply}
-use Rattle.matrices.proofs.Finding.{found-below}
-use Rattle.matrices.proofs.Replying.{entry-at, entry-refused, category-refused, entry-wrong, transition-taken}
+use Rattle.resource_numbers.proofs.Finding.{found-below, entry-at}
+use Rattle.matrices.proofs.Replying.{entry-refused, category-refused, entry-wrong, transition-taken}
 use Rattle.matrices.proofs.set_transition.Statement.{statement}
 use Rattle.matrices.proofs.set_transition.Tie as tie
 

@@ -1,7 +1,7 @@
 -- `offer_lines::put_chosen` meets its contract: three pieces, one behind the other.
 use borrow.Author.Needs.{needs}
 use native.Mathlib.Omega.{arith}
-use Rattle.streams.specs.Laws.{then}
+use Rattle.texts.specs.Laws.{then}
 use Rattle.offer_lines.specs.Lines.{chosenText}
 use Rattle.offer_lines.proofs.put_chosen.Statement.{statement}
 use Rattle.offer_lines.proofs.put_chosen.Tie as tie

@@ -5,8 +5,8 @@ use mathlib.Core.Path.{_≡_, refl}
 use mathlib.Core.List.{[]}
 use Prim.Native.Nat.{_+_, _-_, _*_, _≤_}
 use lib.ListN.{length, take}
-use Rattle.streams.specs.Text.{Put}
-use Rattle.streams.specs.Laws.{then, put-none}
+use Rattle.texts.specs.Text.{Put}
+use Rattle.texts.specs.Laws.{then, put-none}
 use Rattle.offer_lines.specs.Lines.{entriesText}
 use Rattle.offer_lines.proofs.Printing.{entries-more}
 use Rattle.offer_lines.proofs.put_entries.Statement.{statement}

@@ -1,7 +1,7 @@
 -- `offer_lines::put_entry` meets its contract: six pieces, one behind the other.
 use borrow.Author.Needs.{needs}
 use native.Mathlib.Omega.{arith}
-use Rattle.streams.specs.Laws.{then}
+use Rattle.texts.specs.Laws.{then}
 use Rattle.offer_lines.specs.Lines.{entryText}
 use Rattle.offer_lines.proofs.put_entry.Statement.{statement}
 use Rattle.offer_lines.proofs.put_entry.Tie as tie

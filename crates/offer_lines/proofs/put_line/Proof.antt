@@ -1,7 +1,7 @@
 -- `offer_lines::put_line` meets its contract: by the cases of the answer.
 use borrow.Author.Needs.{needs}
 use native.Mathlib.Omega.{arith}
-use Rattle.streams.specs.Laws.{put-none}
+use Rattle.texts.specs.Laws.{put-none}
 use Rattle.slot_text.specs.Lines as slot
 use Rattle.offer_lines.specs.Lines.{lineText}
 use Rattle.offer_lines.proofs.put_line.Statement.{statement}

@@ -1,7 +1,7 @@
 -- `offer_lines::text` meets its contract: the line, and the entries behind it.
 use borrow.Author.Needs.{needs}
 use native.Mathlib.Omega.{arith}
-use Rattle.streams.specs.Laws.{then}
+use Rattle.texts.specs.Laws.{then}
 use Rattle.offer_lines.specs.Lines.{textOf}
 use Rattle.offer_lines.proofs.text.Statement.{statement}
 use Rattle.offer_lines.proofs.text.Tie as tie

@@ -2,14 +2,12 @@
 use borrow.Author.Needs.{needs}
 use borrow.Author.Tests.{le-ltb, lt-ltb, le-leb, lt-leb, not-true, not-false}
 use mathlib.Core.Path.{_≡_, refl, sym, _∙_}
-use mathlib.Core.Bool.{true, false, _&&_}
-use Prim.Native.Nat.{_-_, _^_, _≤_, _<_}
+use mathlib.Core.Bool.{true, false}
+use Prim.Native.Nat.{_^_, _≤_, _<_}
 use native.Mathlib.Omega.{arith}
-use lib.Dec.{eqb}
 use Rattle.calendar.specs.Valid as calendar
 use Rattle.timeline.specs.declared.ResourceTimeline.{ResourceTimeline}
-use Rattle.timeline.specs.Bookings.{bookings, total}
-use Rattle.timeline.specs.Valid.{valid, filledFrom, emptyFrom}
+use Rattle.timeline.specs.Valid.{valid, cellsRight}
 use Rattle.timeline.proofs.is_valid.Statement.{statement}
 use Rattle.timeline.proofs.is_valid.Tie as tie
 
@@ -31,7 +29,7 @@ too-long t v l h n = simp (v, le-leb 1 (t .capacity) l, lt-ltb (t .capacity) (2 
 
 -- past these tests the rest of the definition is left
 tested : (t : ResourceTimeline) → calendar.valid (t .calendar) ≡ true → 1 ≤ t .capacity → t .capacity < 2 ^ 31 → t .len ≤ 64
-    → valid t ≡ filledFrom t 0 (t .len) && (emptyFrom t (t .len) (64 - t .len) && eqb (t .booked) (total (bookings t)))
+    → valid t ≡ cellsRight t
 unfolding valid
 tested t v l h n = simp (v, le-leb 1 (t .capacity) l, lt-ltb (t .capacity) (2 ^ 31) h, le-leb (t .len) 64 n)
 
@@ -54,44 +52,13 @@ returns-3 c = capacity-large _ (keeps (c .before .before .before .before)) (omeg
 returns-4 : tie.Need-returns-4
 returns-4 c = too-long _ (keeps (c .before .before .before .before .before .before)) (omega arith) (omega arith) (omega arith)
 
-filled-requires : tie.Need-filled-requires
-filled-requires c κs = search needs
+cells-right-requires : tie.Need-cells-right-requires
+cells-right-requires c κs = search needs
 
 returns-5 : tie.Need-returns-5
-returns-5 c =
-    let e = sym (c .before .filled .ensures) ∙ not-true _ (c .if5 .taken) in
-    sym (tested _ (keeps (c .before .before .before .before .before .before .before .before)) (omega arith) (omega arith) (omega arith) ∙ rw e refl)
-
-empty-requires : tie.Need-empty-requires
-empty-requires c κs = search needs
-
-returns-6 : tie.Need-returns-6
-returns-6 c =
-    let f = sym (c .before .before .before .filled .ensures) ∙ not-false _ (c .before .before .if5 .left) in
-    let e = sym (c .before .empty .ensures) ∙ not-true _ (c .if6 .taken) in
-    sym (tested _ (keeps (c .before .before .before .before .before .before .before .before .before .before)) (omega arith) (omega arith) (omega arith) ∙ rw (f, e) refl)
-
-sum-requires : tie.Need-sum-requires
-sum-requires c κs = (search needs, sym (c .before .before .before .filled .ensures) ∙ not-false _ (c .before .before .if5 .left))
-
-returns-7 : tie.Need-returns-7
-returns-7 c =
-    let f = sym (c .before .before .before .before .before .filled .ensures) ∙ not-false _ (c .before .before .before .before .if5 .left) in
-    let e = sym (c .before .before .before .empty .ensures) ∙ not-false _ (c .before .before .if6 .left) in
-    sym (tested _ (keeps (c .before .before .before .before .before .before .before .before .before .before .before .before)) (omega arith) (omega arith) (omega arith) ∙ rw (f, e, ← c .before .sum .ensures) refl)
+returns-5 c = c .cells-right .ensures ∙ sym (tested _ (keeps (c .before .before .before .before .before .before .before)) (omega arith) (omega arith) (omega arith))
 
 pub is-valid-spec : {M : Type 1} → statement M
 is-valid-spec =
     tie.close
-    (tie.spec
-    is-valid-requires
-    returns
-    returns-2
-    returns-3
-    returns-4
-    filled-requires
-    returns-5
-    empty-requires
-    returns-6
-    sum-requires
-    returns-7)
+    (tie.spec is-valid-requires returns returns-2 returns-3 returns-4 cells-right-requires returns-5)

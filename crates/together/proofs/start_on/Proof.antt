@@ -4,7 +4,7 @@ use Rattle.together.proofs.start_on.Statement.{statement}
 use Rattle.together.proofs.start_on.Tie as tie
 use mathlib.Core.Path.{sym, ap, _∙_}
 use Rattle.calendar.specs.Search.{Found}
-use Rattle.joint.specs.Layout.{foundOf}
+use Rattle.work_ends.specs.Layout.{foundOf}
 use Rattle.earliest.specs.Steps.{startOf}
 use Rattle.timeline.specs.Ask.{ended}
 use Rattle.scheduler.specs.Shares.{startOn}

@@ -2,7 +2,7 @@
 use borrow.Author.Needs.{needs}
 use native.Mathlib.Omega.{arith}
 use mathlib.Core.List.{[], _∷_}
-use Rattle.streams.specs.Laws.{then}
+use Rattle.texts.specs.Laws.{then}
 use Rattle.slot_text.specs.Lines.{textOf}
 use Rattle.slot_text.proofs.lines.put_refused.Statement.{statement}
 use Rattle.slot_text.proofs.lines.put_refused.Tie as tie

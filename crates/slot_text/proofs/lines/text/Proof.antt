@@ -1,7 +1,7 @@
 -- `slot_text::lines::text` meets its contract: by the cases of the line.
 use borrow.Author.Needs.{needs}
 use native.Mathlib.Omega.{arith}
-use Rattle.streams.specs.Laws.{put-none}
+use Rattle.texts.specs.Laws.{put-none}
 use Rattle.slot_text.specs.Lines.{textOf, lineOf}
 use Rattle.slot_text.proofs.lines.text.Statement.{statement}
 use Rattle.slot_text.proofs.lines.text.Tie as tie

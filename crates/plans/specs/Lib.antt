@@ -1,0 +1,2 @@
+-- What an order needs of each resource alone.
+pub mod Plans

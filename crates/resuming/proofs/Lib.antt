@@ -1,0 +1,4 @@
+-- The proofs of fitting resumable work.
+mod Gathering
+mod Resuming
+mod Walking

@@ -1,0 +1,285 @@
+-- The walk from instant to instant, one diary more at a time.
+use mathlib.Core.Path.{_≡_, refl, sym, ap, _∙_, subst}
+use mathlib.Core.Bool.{Bool, true, false, _&&_, cond}
+use mathlib.Core.List.{List, [], _∷_, _++_, map}
+use mathlib.Core.Logic.{⊎-elim}
+use Prim.Native.Nat.{ℕ, suc, _+_, _-_, _*_, _^_, _≤_, _<_}
+use native.Mathlib.Omega.{arith}
+use lib.ListN.{length, getD, set, take, length-set}
+use lib.Seq.{getD-set-same, getD-set-other}
+use lib.Dec.{leb}
+use Rattle.calendar.specs.declared.Calendar.{Calendar}
+use Rattle.calendar.specs.Basics.{not-both, same-or-not}
+use Rattle.calendar.specs.Search.{Found, nothing, at}
+use Rattle.calendar.specs.Work.{joint, jointEnd, workEnd}
+use Rattle.calendar.specs.Valid as calendar
+use Rattle.work_ends.specs.Layout.{Layout, laid, lastCell}
+use Rattle.joint.specs.Layout.{Ruled, blank}
+use Rattle.joint.proofs.Ending.{layout-end}
+use Rattle.timeline.specs.declared.ResourceTimeline.{ResourceTimeline}
+use Rattle.timeline.specs.Ask as asking
+use Rattle.timeline.specs.Earliest.{freeOn}
+use Rattle.timeline.proofs.Rules.{rules}
+use Rattle.timeline.proofs.Searching.{Sought, sought-start}
+use Rattle.timeline.proofs.Stepping.{Still}
+use Rattle.board.specs.Resources.{noDiary}
+use Rattle.scheduler.specs.Alone.{Share}
+use Rattle.scheduler.specs.Fitting.{calendarOf, allFree}
+use Rattle.scheduler.specs.Shares.{shareAt, sharesTo, Wanted}
+use Rattle.scheduler.specs.Latest.{wanted-sound}
+use Rattle.scheduler.specs.Together.{Calm}
+use Rattle.scheduler.specs.Owning.{suitsOn}
+use Rattle.fitting.specs.Jointly.{jointly, ended}
+use Rattle.resuming.proofs.Gathering.{shares-next, free-more, calm-on, calm-none, calendars-are}
+use Rattle.resuming.proofs.Resuming.{endFree, found, onward, over}
+
+-- an end, where there is one
+abbrev pub endIf : Bool → ℕ → Found
+endIf free end = cond free (at end) nothing
+
+-- with no diary asked, the joint end itself
+end-none-asked : (s : ℕ) (f : Found) → f ≡ endFree [] s f
+unfolding endFree allFree
+end-none-asked s nothing = refl
+end-none-asked s (at e) = refl
+
+-- one diary more
+end-more : (xs : List Share) (x : Share) (s e : ℕ) (free : Bool) (f : Found) → endIf free e ≡ endFree xs s f → endIf (free && freeOn (x .timeline) (x .units) s e) e ≡ endFree (xs ++ (x ∷ [])) s f
+unfolding endFree
+end-more xs x s e true nothing h = absurd (not-both true refl (ap isAt h))
+  where
+    isAt : Found → Bool
+    isAt nothing = false
+    isAt (at y) = true
+end-more xs x s e false nothing h = refl
+end-more xs x s e free (at d) h = go free (allFree xs s d) refl h
+  where
+    when : Found → ℕ
+    when nothing = 0
+    when (at y) = y
+
+    isAt : Found → Bool
+    isAt nothing = false
+    isAt (at y) = true
+
+    go : (p q : Bool) → allFree xs s d ≡ q → endIf p e ≡ cond q (at d) nothing → endIf (p && freeOn (x .timeline) (x .units) s e) e ≡ cond (allFree (xs ++ (x ∷ [])) s d) (at d) nothing
+    go true true k j =
+        let z : e ≡ d = ap when j in
+        rw (free-more xs x s d, k, z) refl
+    go true false k j = absurd (not-both true refl (ap isAt j))
+    go false true k j = absurd (not-both true refl (sym (ap isAt j)))
+    go false false k j = rw (free-more xs x s d, k) refl
+
+module _ (ts : List ResourceTimeline) (us : List ℕ) (n work from : ℕ) where
+  abbrev pub all : List Share
+  all = sharesTo ts us n
+
+  abbrev pub end-from : ℕ → Found
+  end-from x = jointEnd (map calendarOf all) x work
+
+  -- the first i are asked at `here`
+  pub record Tried (here end : ℕ) (free : Bool) (next i : ℕ) : Type 0 where
+    pub ends : endIf free end ≡ endFree (sharesTo ts us i) here (end-from here)
+    pub later : here < next
+    pub most : next ≤ 2 ^ 63
+    pub calm : (y : ℕ) → here ≤ y → suc y < next → Calm (suc y) (sharesTo ts us i)
+
+  -- the joint time is not laid out yet, and the calendars of the first i are gathered
+  pub record Gathers (cs : List Calendar) (here : ℕ) (free : Bool) (next i : ℕ) : Type 0 where
+    pub start : here ≡ from
+    pub begin : next ≡ from
+    pub none : free ≡ false
+    pub cells : (k : ℕ) → k < i → getD cs k blank ≡ getD ts k noDiary .calendar
+
+  -- it is laid out, and nothing suits before `here`
+  pub record Walks (edges : List ℕ) (len here end : ℕ) (free : Bool) (next i : ℕ) : Type 0 where
+    pub short : len ≤ 3201
+    pub layout : Layout (λ p. leb from p && joint (map calendarOf all) p) edges len
+    pub sought : Sought (suitsOn true all work) from here
+    pub tried : here < 2 ^ 63 → Tried here end free next i
+
+  -- one calendar more
+  pub gathers-next : (cs : List Calendar) (here : ℕ) (free : Bool) (next i : ℕ) → Gathers cs here free next i → i < length cs → Gathers (set cs i (getD ts i noDiary .calendar)) here free next (i + 1)
+  gathers-next cs here free next i g l = record {
+    start = g .start;
+    begin = g .begin;
+    none = g .none;
+    cells = λ k h.
+        ⊎-elim
+        (λ (e : i ≡ k). rw (← e) (getD-set-same cs i _ blank l))
+        (λ (e : k ≡ i → ⊥). getD-set-other cs i k _ blank e ∙ g .cells k (omega (arith, e)))
+        (same-or-not i k);
+  }
+
+  module _ (wanted : Wanted ts us n) where
+    -- all calendars keep the rules, and are those of all diaries
+    pub gathers-ruled : (cs : List Calendar) (here : ℕ) (free : Bool) (next i : ℕ) → Gathers cs here free next i → n ≤ i → Ruled cs n
+    gathers-ruled cs here free next i g l k h = ap calendar.valid (g .cells k (omega arith)) ∙ rules _ (wanted .kept k h) .calendar
+
+    pub gathers-all : (cs : List Calendar) (here : ℕ) (free : Bool) (next i : ℕ) → Gathers cs here free next i → n ≤ i → n ≤ length cs → take n cs ≡ map calendarOf all
+    gathers-all cs here free next i g l m = calendars-are cs ts us n m (λ k h. g .cells k (omega arith))
+
+    -- an instant to try, with no diary asked
+    pub walks-begin : (edges : List ℕ) (len here end : ℕ) (free : Bool) → len ≤ 3201 → Layout (λ p. leb from p && joint (map calendarOf all) p) edges len → Sought (suitsOn true all work) from here
+        → (here < 2 ^ 63 → endIf free end ≡ workEnd (lastCell edges len) (laid edges len) here work) → Walks edges len here end free (2 ^ 63) 0
+    unfolding sharesTo
+    walks-begin edges len here end free short y s e = record {
+      short = short;
+      layout = y;
+      sought = s;
+      tried = λ l. record {
+        ends = e l ∙ layout-end (map calendarOf all) from edges len here work y (s .low) ∙ end-none-asked here (end-from here);
+        later = l;
+        most = omega arith;
+        calm = λ z a b. calm-none ts us (suc z);
+      };
+    }
+
+    -- one diary more asked
+    pub walks-next : (edges : List ℕ) (len here end : ℕ) (free : Bool) (next i : ℕ) → Walks edges len here end free next i → here < 2 ^ 63 → (later : ℕ) → here < later → later ≤ next
+        → ((y : ℕ) → here ≤ y → suc y < later → Still (getD ts i noDiary) (suc y)) → Walks edges len here end (free && freeOn (getD ts i noDiary) (getD us i 0) here end) later (i + 1)
+    walks-next edges len here end free next i w l later a b still =
+        let t = w .tried l in
+        record {
+          short = w .short;
+          layout = w .layout;
+          sought = w .sought;
+          tried = λ m. record {
+            ends = end-more (sharesTo ts us i) (shareAt ts us i) here end free (end-from here) (t .ends) ∙ ap (λ (xs : List Share). endFree xs here (end-from here)) (sym (shares-next ts us i));
+            later = a;
+            most = omega (arith, t .most);
+            calm = λ y p q. calm-on ts us i (suc y) (t .calm y p (omega arith)) (still y p q);
+          };
+        }
+
+    module _ (edges : List ℕ) (len here end : ℕ) (free : Bool) (next i : ℕ) (w : Walks edges len here end free next i) (l : here < 2 ^ 63) (z : i ≡ n) where
+      ends-all : endIf free end ≡ endFree all here (end-from here)
+      ends-all = rw z at (w .tried l .ends)
+
+      -- all are free: the least start
+      pub walks-found : free ≡ true → asking.fit here end ≡ ended all work (jointly all work from)
+      walks-found e = found all (wanted-sound ts us n wanted) work from here end (w .sought) (sym ends-all ∙ rw e refl)
+
+      -- one is not: the search goes on at the next instant
+      pub walks-on : free ≡ false → Sought (suitsOn true all work) from next
+      walks-on e =
+          onward all (wanted-sound ts us n wanted) work from here next (w .sought) (sym ends-all ∙ rw e refl) (w .tried l .later)
+          (λ y a b. subst (λ (k : ℕ). Calm (suc y) (sharesTo ts us k)) z (w .tried l .calm y a b))
+
+    pub walks-over : (edges : List ℕ) (len here end : ℕ) (free : Bool) (next i : ℕ) → Walks edges len here end free next i → from ≤ 2 ^ 43 → 2 ^ 63 ≤ here → asking.none ≡ ended all work (jointly all work from)
+    walks-over edges len here end free next i w f l = over all (wanted-sound ts us n wanted) work from here f l (w .sought)
+
+  -- the walk at the i-th diary: the calendars are gathered, then instants are tried
+  pub record State (cs : List Calendar) (edges : List ℕ) (len here end : ℕ) (free : Bool) (next : ℕ) (laid : Bool) (i : ℕ) : Type 0 where
+    pub few : i ≤ n
+    pub cells : length cs ≡ 25
+    pub wide : length edges ≡ 3201
+    pub most : here ≤ 2 ^ 63
+    pub gathers : laid ≡ false → Gathers cs here free next i
+    pub walks : laid ≡ true → Walks edges len here end free next i
+
+  pub state-start : (cs : List Calendar) (edges : List ℕ) (len here end : ℕ) (free : Bool) (next : ℕ) (laid : Bool) → length cs ≡ 25 → length edges ≡ 3201 → here ≡ from → free ≡ false → next ≡ from → laid ≡ false → from ≤ 2 ^ 63
+      → State cs edges len here end free next laid 0
+  state-start cs edges len here end free next laid p q a f b g l = record {
+    few = omega arith;
+    cells = p;
+    wide = q;
+    most = omega arith;
+    gathers = λ e. record { start = a; begin = b; none = f; cells = λ k h. absurd (omega arith) };
+    walks = λ e. absurd (not-both laid e g);
+  }
+
+  module _ (cs : List Calendar) (edges : List ℕ) (len here end : ℕ) (free : Bool) (next : ℕ) (laid : Bool) (i : ℕ) (s : State cs edges len here end free next laid i) (l : i < n) where
+    pub state-cell : laid ≡ false → n ≤ 25 → (c : Calendar) → c ≡ getD ts i noDiary .calendar → State (set cs i c) edges len here end free next laid (i + 1)
+    state-cell e m c z = record {
+      few = omega arith;
+      cells = length-set cs i c ∙ s .cells;
+      wide = s .wide;
+      most = s .most;
+      gathers = λ f. rw z (gathers-next cs here free next i (s .gathers e) (omega (arith, s .cells)));
+      walks = λ f. absurd (not-both laid f e);
+    }
+
+    pub state-asked : Wanted ts us n → laid ≡ true → here < 2 ^ 63 → (x y : ℕ) (p : Bool) (z : ℕ) (q : Bool) (d : ResourceTimeline) (u : ℕ) → d ≡ getD ts i noDiary → u ≡ getD us i 0 → x ≡ here → y ≡ end → q ≡ laid
+        → p ≡ free && freeOn d u here end → here < z → z ≤ next → ((t : ℕ) → here ≤ t → suc t < z → Still d (suc t)) → State cs edges len x y p z q (i + 1)
+    state-asked wanted e h x y p z q d u a b ex ey eq ep m k still = record {
+      few = omega arith;
+      cells = s .cells;
+      wide = s .wide;
+      most = omega (arith, s .most);
+      gathers = λ f. absurd (not-both laid e (sym eq ∙ f));
+      walks = λ f. rw (ex, ey, ep, a, b) (walks-next wanted edges len here end free next i (s .walks e) h z m k (λ t g j. subst (λ (r : ResourceTimeline). Still r (suc t)) a (still t g j)));
+    }
+
+  -- what is laid out, and where the next trial begins
+  pub record Onward (edges : List ℕ) (len next : ℕ) : Type 0 where
+    pub wide : length edges ≡ 3201
+    pub short : len ≤ 3201
+    pub layout : Layout (λ p. leb from p && joint (map calendarOf all) p) edges len
+    pub sought : Sought (suitsOn true all work) from next
+    pub most : next ≤ 2 ^ 63
+
+  module _ (wanted : Wanted ts us n) (cs : List Calendar) (edges : List ℕ) (len here end : ℕ) (free : Bool) (next : ℕ) (laid : Bool) (i : ℕ) (s : State cs edges len here end free next laid i) (l : n ≤ i) where
+    -- the joint time laid out
+    pub onward-laid : laid ≡ false → from ≤ 2 ^ 43 → n ≤ 25 → (xs : List ℕ) (m : ℕ) → length xs ≡ 3201 → m ≤ 3201 → Layout (λ p. leb from p && joint (take n cs) p) xs m → Onward xs m next
+    onward-laid e r few xs m wide short y =
+        let g = s .gathers e in
+        record {
+          wide = wide;
+          short = short;
+          layout = subst (λ (zs : List Calendar). Layout (λ p. leb from p && joint zs p) xs m) (gathers-all wanted cs here free next i g l (omega (arith, s .cells))) y;
+          sought = rw (g .begin) (sought-start _ from);
+          most = omega (arith, g .begin);
+        }
+
+    -- an instant tried on all in vain
+    pub onward-next : laid ≡ true → here < 2 ^ 63 → free ≡ false → Onward edges len next
+    onward-next e h f =
+        let w = s .walks e in
+        let z : i ≡ n = omega (arith, s .few) in
+        record {
+          wide = s .wide;
+          short = w .short;
+          layout = w .layout;
+          sought = walks-on wanted edges len here end free next i w h z f;
+          most = w .tried h .most;
+        }
+
+    -- an instant that suits: it was tried
+    pub state-found : free ≡ true → here < 2 ^ 63 → asking.fit here end ≡ ended all work (jointly all work from)
+    state-found f h = go laid refl
+      where
+        go : (q : Bool) → laid ≡ q → asking.fit here end ≡ ended all work (jointly all work from)
+        go true e = let z : i ≡ n = omega (arith, s .few) in walks-found wanted edges len here end free next i (s .walks e) h z f
+        go false e = absurd (not-both free f (s .gathers e .none))
+
+  pub state-over : Wanted ts us n → (cs : List Calendar) (edges : List ℕ) (len here end : ℕ) (free : Bool) (next : ℕ) (laid : Bool) (i : ℕ) → State cs edges len here end free next laid i → from ≤ 2 ^ 43 → 2 ^ 63 ≤ here → asking.none ≡ ended all work (jointly all work from)
+  state-over wanted cs edges len here end free next laid i s f l = go laid refl
+    where
+      go : (q : Bool) → laid ≡ q → asking.none ≡ ended all work (jointly all work from)
+      go true e = walks-over wanted edges len here end free next i (s .walks e) f l
+      go false e = absurd (omega (arith, s .gathers e .start))
+
+  pub state-begun : Wanted ts us n → (cs : List Calendar) (edges : List ℕ) (len next : ℕ) → length cs ≡ 25 → Onward edges len next → (x y : ℕ) (p : Bool) (z : ℕ) (q : Bool) → x ≡ next → z ≡ 2 ^ 63 → q ≡ true
+      → (next < 2 ^ 63 → endIf p y ≡ workEnd (lastCell edges len) (laid edges len) next work) → State cs edges len x y p z q 0
+  state-begun wanted cs edges len next cells o x y p z q ex ez eq ends = record {
+    few = omega arith;
+    cells = cells;
+    wide = o .wide;
+    most = omega (arith, o .most);
+    gathers = λ f. absurd (not-both q eq f);
+    walks = λ f. rw (ex, ez) (walks-begin wanted edges len next y p (o .short) (o .layout) (o .sought) ends);
+  }
+
+-- what is left of the walk falls
+abbrev pub left : ℕ → Bool → ℕ → ℕ → ℕ
+left here laid n i = (2 ^ 63 - here) * 64 + cond laid 0 32 + (n - i)
+
+pub left-asked : (x here : ℕ) (q laid : Bool) (n i : ℕ) → x ≡ here → q ≡ laid → i < n → left x q n (i + 1) < left here laid n i
+left-asked x here q laid n i a b l = rw (a, b) (omega arith)
+
+pub left-laid : (x here : ℕ) (q laid : Bool) (n i : ℕ) → x ≡ here → q ≡ true → laid ≡ false → n ≤ 25 → left x q n 0 < left here laid n i
+left-laid x here q laid n i a b c l = rw (a, b, c) (omega arith)
+
+pub left-on : (x here : ℕ) (q laid : Bool) (n i : ℕ) → here < x → x ≤ 2 ^ 63 → q ≡ true → laid ≡ true → n ≤ 25 → left x q n 0 < left here laid n i
+left-on x here q laid n i a m b c l = rw (b, c) (omega arith)

@@ -1,0 +1,268 @@
+-- `resuming::fit_resumable` meets its contract. The loop: the calendars of the diaries so far are gathered; then no work starts before the
+-- instant at hand, which is tried on one diary after another (Walking).
+use borrow.Author.Needs.{needs}
+use borrow.Author.Tests.{not-true, not-false}
+use Rattle.resuming.proofs.fit_resumable.Statement.{statement}
+use Rattle.resuming.proofs.fit_resumable.Tie as tie
+use mathlib.Core.Path.{_≡_, refl, sym, ap, _∙_}
+use mathlib.Core.Bool.{Bool, true}
+use mathlib.Core.List.{List, _∷_}
+use mathlib.Core.Logic.{⊎-elim}
+use Prim.Native.Nat.{ℕ, _+_, _≤_, _<_}
+use native.Mathlib.Omega.{arith}
+use lib.ListN.{length, getD, take, length-map}
+use Rattle.calendar.specs.declared.Calendar.{Calendar}
+use Rattle.timeline.specs.declared.ResourceTimeline.{ResourceTimeline}
+use Rattle.board.specs.declared.Board.{Board}
+use Rattle.board.specs.Resources.{noDiary}
+use Rattle.scheduler.specs.declared.Entry.{Entry}
+use Rattle.scheduler.specs.Alone.{Share}
+use Rattle.scheduler.specs.Fitting.{sharesOf}
+use Rattle.scheduler.specs.Shares.{sharesTo}
+use Rattle.scheduler.specs.Owning.{ownShare}
+use Rattle.fitting.specs.Jointly.{fitOf, jointly, ended}
+use Rattle.fitting.proofs.Reading.{Asks, diaries, wants, asks-own, asks-shares, asks-wanted, number-small, place-small, read-diary, read-units, own-diary, own-units}
+use Rattle.resuming.specs.declared.Trial.{Trial}
+use Rattle.resuming.proofs.Walking.{State, state-start, state-cell, state-asked, state-found, state-over, state-begun, Onward, onward-laid, onward-next, gathers-ruled, left, left-asked, left-laid, left-on}
+
+abbrev Inv-loop : tie.InvT-loop
+Inv-loop work from b e places first n cs₀ edges₀ len₀ t₀ i₀ cs edges len t i =
+    Asks b (e .entries) (e .count) places first × State (diaries b (e .entries) (e .count) first) (wants b (e .entries) (e .count) first) (e .count + 1) work from cs edges len (t .at) (t .end) (t .free) (t .next) (t .laid) i
+
+abbrev μ-loop : tie.MeasureT-loop
+μ-loop work from b e places first n cs₀ edges₀ len₀ t₀ i₀ cs edges len t i = left (t .at) (t .laid) (e .count + 1) i
+
+answered : (work from : ℕ) (b : Board) (es : List Entry) (n : ℕ) (first : ResourceTimeline) (places : List ℕ) → Asks b es n places first → (own : Calendar) → first ≡ ownShare own .timeline
+    → ended (sharesTo (diaries b es n first) (wants b es n first) (n + 1)) work (jointly (sharesTo (diaries b es n first) (wants b es n first) (n + 1)) work from) ≡ ended (ownShare own ∷ sharesOf b (take n es)) work (jointly (ownShare own ∷ sharesOf b (take n es)) work from)
+answered work from b es n first places a own e = ap (λ (xs : List Share). ended xs work (jointly xs work from)) (asks-shares b es n first places a own e)
+
+own-timeline-requires : tie.Need-own-timeline-requires Inv-loop μ-loop
+own-timeline-requires c κs = search needs
+
+add-n : tie.Need-add-n Inv-loop μ-loop
+add-n c = search needs
+
+untried-requires : tie.Need-untried-requires Inv-loop μ-loop
+untried-requires c κs = search needs
+
+loop-holds : tie.Need-loop-holds Inv-loop μ-loop
+loop-holds c =
+    let q = c .before .before .pre in
+    let a = c .before .before .args in
+    let u = c .untried .ensures in
+    let asks = asks-own (a .t1) (a .t2 .entries) (a .t2 .count) (a .t3) (a .own) _ (c .before .own-timeline .ensures) (q .0 .0) (q .0 .1) (q .0 .2) (q .0 .3) (simp length-map at (c .before .before .good .1 .0 .1 .1 .0 .1 .0 .1)) (q .1) in
+    (asks, state-start _ _ _ _ _ _ _ _ _ _ _ _ _ refl refl (u .0) (u .1) (u .2) (u .3) (omega (arith, q .0 .4)))
+
+sub-x : tie.Need-sub-x Inv-loop μ-loop
+sub-x c = search needs
+
+mul-x : tie.Need-mul-x Inv-loop μ-loop
+mul-x c = search needs
+
+element-copy-out-x : tie.Need-element-copy-out-x Inv-loop μ-loop
+element-copy-out-x c = search needs
+
+cast-r : tie.Need-cast-r Inv-loop μ-loop
+cast-r c = search needs
+
+mul-r : tie.Need-mul-r Inv-loop μ-loop
+mul-r c = search needs
+
+array-read-r : tie.Need-array-read-r Inv-loop μ-loop
+array-read-r c =
+    let a = c .before .before .before .before .before .before .before .before .before .args in
+    let k = c .before .before .before .before .before .before .loop in
+    let first = c .before .before .before .before .before .before .before .before .own-timeline .result in
+    let l = c .before .before .before .if2 .taken in
+    let p = c .before .before .if3 .taken in
+    number-small (a .t1) (a .t2 .entries) (a .t2 .count) first (a .t3) (k .inv .0) (k .i) p l
+
+mul-r-2 : tie.Need-mul-r-2 Inv-loop μ-loop
+mul-r-2 c =
+    let a = c .before .before .before .before .before .before .before .before .before .args in
+    let k = c .before .before .before .before .before .before .loop in
+    let first = c .before .before .before .before .before .before .before .before .own-timeline .result in
+    let l = c .before .before .before .if2 .taken in
+    let p = c .before .before .if3 .taken in
+    let small = place-small (a .t1) (a .t2 .entries) (a .t2 .count) first (a .t3) (k .inv .0) (k .i) p l in
+    search needs
+
+element-copy-out-r : tie.Need-element-copy-out-r Inv-loop μ-loop
+element-copy-out-r c =
+    let a = c .before .before .before .before .before .before .before .before .before .args in
+    let k = c .before .before .before .before .before .before .loop in
+    let first = c .before .before .before .before .before .before .before .before .own-timeline .result in
+    let l = c .before .before .before .if2 .taken in
+    let p = c .before .before .if3 .taken in
+    place-small (a .t1) (a .t2 .entries) (a .t2 .count) first (a .t3) (k .inv .0) (k .i) p l
+
+joined : (c : tie.Joined3 Inv-loop μ-loop) → (c .if3 .d ≡ getD (diaries (c .before .before .before .before .before .before .before .args .t1) (c .before .before .before .before .before .before .before .args .t2 .entries) (c .before .before .before .before .before .before .before .args .t2 .count) (c .before .before .before .before .before .before .own-timeline .result)) (c .before .before .before .before .loop .i) noDiary) × (c .if3 .units ≡ getD (wants (c .before .before .before .before .before .before .before .args .t1) (c .before .before .before .before .before .before .before .args .t2 .entries) (c .before .before .before .before .before .before .before .args .t2 .count) (c .before .before .before .before .before .before .own-timeline .result)) (c .before .before .before .before .loop .i) 0)
+joined c =
+    let a = c .before .before .before .before .before .before .before .args in
+    let k = c .before .before .before .before .loop in
+    let first = c .before .before .before .before .before .before .own-timeline .result in
+    let l = c .before .if2 .taken in
+    ⊎-elim
+    (λ w. (w .6 ∙ read-diary (a .t1) (a .t2 .entries) (a .t2 .count) first (a .t3) (k .inv .0) (k .i) (w .0 .taken) l, w .5 ∙ read-units (a .t1) (a .t2 .entries) (a .t2 .count) first (a .t3) (k .inv .0) (k .i) (w .0 .taken) l))
+    (λ w. (w .2 ∙ own-diary (a .t1) (a .t2 .entries) (a .t2 .count) first (a .t3) (k .inv .0) (k .i) (w .0 .left), w .1 ∙ own-units (a .t1) (a .t2 .entries) (a .t2 .count) first (a .t3) (k .inv .0) (k .i) (w .0 .left)))
+    (c .if3 .came)
+
+asked-requires : tie.Need-asked-requires Inv-loop μ-loop
+asked-requires c κs =
+    let a = c .before .before .before .before .before .before .before .before .args in
+    let k = c .before .before .before .before .before .loop in
+    let first = c .before .before .before .before .before .before .before .own-timeline .result in
+    let l = c .before .before .if2 .taken in
+    let j = joined (c .before) in
+    let h = c .before .before .before .if1 .taken in
+    let t = k .inv .1 .walks (c .if4 .taken) .tried h in
+    (rw (j .0) (asks-wanted (a .t1) (a .t2 .entries) (a .t2 .count) first (a .t3) (k .inv .0) .kept (k .i) l), t .later, t .most)
+
+mul-cs : tie.Need-mul-cs Inv-loop μ-loop
+mul-cs c = search needs
+
+array-set-from-cs : tie.Need-array-set-from-cs Inv-loop μ-loop
+array-set-from-cs c = search needs
+
+add-i : tie.Need-add-i Inv-loop μ-loop
+add-i c = search needs
+
+loop-less : tie.Need-loop-less Inv-loop μ-loop
+loop-less c =
+    let a = c .before .before .before .before .before .before .before .before .args in
+    let k = c .before .before .before .before .before .loop in
+    let first = c .before .before .before .before .before .before .before .own-timeline .result in
+    let l = c .before .before .if2 .taken in
+    let j = joined (c .before) in
+    let h = c .before .before .before .if1 .taken in
+    let s = k .inv .1 in
+    ⊎-elim
+    (λ w. left-asked (c .if4 .t .at) (k .t .at) (c .if4 .t .laid) (k .t .laid) (a .t2 .count + 1) (k .i) (ap (λ (x : Trial). x .at) (w .3) ∙ w .1 .ensures .0 .0) (ap (λ (x : Trial). x .laid) (w .3) ∙ w .1 .ensures .0 .2) l)
+    (λ w. left-asked (c .if4 .t .at) (k .t .at) (c .if4 .t .laid) (k .t .laid) (a .t2 .count + 1) (k .i) (ap (λ (x : Trial). x .at) (w .3)) (ap (λ (x : Trial). x .laid) (w .3)) l)
+    (c .if4 .came)
+
+loop-again : tie.Need-loop-again Inv-loop μ-loop
+loop-again c =
+    let a = c .before .before .before .before .before .before .before .before .args in
+    let k = c .before .before .before .before .before .loop in
+    let first = c .before .before .before .before .before .before .before .own-timeline .result in
+    let l = c .before .before .if2 .taken in
+    let j = joined (c .before) in
+    let h = c .before .before .before .if1 .taken in
+    let s = k .inv .1 in (
+      k .inv .0,
+      ⊎-elim
+          (λ w.
+          let r = w .1 .result in
+          let u = w .1 .ensures in
+          rw (w .2, w .3) (state-asked (diaries (a .t1) (a .t2 .entries) (a .t2 .count) first) (wants (a .t1) (a .t2 .entries) (a .t2 .count) first) (a .t2 .count + 1) (a .work) (a .from) (k .cs) (k .edges) (k .len) (k .t .at) (k .t .end) (k .t .free) (k .t .next) (k .t .laid) (k .i) s l (asks-wanted (a .t1) (a .t2 .entries) (a .t2 .count) first (a .t3) (k .inv .0)) (w .0 .taken) h (r .at) (r .end) (r .free) (r .next) (r .laid) _ _ (j .0) (j .1) (u .0 .0) (u .0 .1) (u .0 .2) (u .0 .3) (u .1 .0) (u .1 .1) (u .1 .2)))
+          (λ w. rw (w .2, w .3) (state-cell (diaries (a .t1) (a .t2 .entries) (a .t2 .count) first) (wants (a .t1) (a .t2 .entries) (a .t2 .count) first) (a .t2 .count + 1) (a .work) (a .from) (k .cs) (k .edges) (k .len) (k .t .at) (k .t .end) (k .t .free) (k .t .next) (k .t .laid) (k .i) s l (w .0 .left) (omega (arith, k .inv .0 .few)) _ (ap (λ (d : ResourceTimeline). d .calendar) (j .0))))
+          (c .if4 .came),
+    )
+
+returns : tie.Need-returns Inv-loop μ-loop
+unfolding fitOf
+returns c =
+    let a = c .before .before .before .before .before .before .before .args in
+    let k = c .before .before .before .before .loop in
+    let first = c .before .before .before .before .before .before .own-timeline .result in
+    let l = c .before .if2 .left in
+    let h = c .before .before .if1 .taken in
+    state-found (diaries (a .t1) (a .t2 .entries) (a .t2 .count) first) (wants (a .t1) (a .t2 .entries) (a .t2 .count) first) (a .t2 .count + 1) (a .work) (a .from) (asks-wanted (a .t1) (a .t2 .entries) (a .t2 .count) first (a .t3) (k .inv .0)) (k .cs) (k .edges) (k .len) (k .t .at) (k .t .end) (k .t .free) (k .t .next) (k .t .laid) (k .i) (k .inv .1) l (c .if5 .taken) h ∙ answered (a .work) (a .from) (a .t1) (a .t2 .entries) (a .t2 .count) first (a .t3) (k .inv .0) (a .own) (c .before .before .before .before .before .before .own-timeline .ensures)
+
+joint-time-requires : tie.Need-joint-time-requires Inv-loop μ-loop
+joint-time-requires c κs =
+    let a = c .before .before .before .before .before .before .before .before .before .args in
+    let k = c .before .before .before .before .before .before .loop in
+    let first = c .before .before .before .before .before .before .before .before .own-timeline .result in
+    let q = c .before .before .before .before .before .before .before .before .before .pre in
+    let l = c .before .before .before .if2 .left in
+    (omega (arith, q .0 .3), omega (arith, q .0 .4), gathers-ruled (diaries (a .t1) (a .t2 .entries) (a .t2 .count) first) (wants (a .t1) (a .t2 .entries) (a .t2 .count) first) (a .t2 .count + 1) (a .work) (a .from) (asks-wanted (a .t1) (a .t2 .entries) (a .t2 .count) first (a .t3) (k .inv .0)) (k .cs) (k .t .at) (k .t .free) (k .t .next) (k .i) (k .inv .1 .gathers (not-true _ (c .if6 .taken))) l)
+
+laid-out : (c : tie.Joined6 Inv-loop μ-loop) → Onward (diaries (c .before .before .before .before .before .before .before .before .before .args .t1) (c .before .before .before .before .before .before .before .before .before .args .t2 .entries) (c .before .before .before .before .before .before .before .before .before .args .t2 .count) (c .before .before .before .before .before .before .before .before .own-timeline .result)) (wants (c .before .before .before .before .before .before .before .before .before .args .t1) (c .before .before .before .before .before .before .before .before .before .args .t2 .entries) (c .before .before .before .before .before .before .before .before .before .args .t2 .count) (c .before .before .before .before .before .before .before .before .own-timeline .result)) (c .before .before .before .before .before .before .before .before .before .args .t2 .count + 1) (c .before .before .before .before .before .before .before .before .before .args .work) (c .before .before .before .before .before .before .before .before .before .args .from) (c .if6 .edges) (c .if6 .len) (c .before .before .before .before .before .before .loop .t .next) × ((x : ℕ) (q : Bool) → x ≡ c .before .before .before .before .before .before .loop .t .next → q ≡ true → left x q (c .before .before .before .before .before .before .before .before .before .args .t2 .count + 1) 0 < left (c .before .before .before .before .before .before .loop .t .at) (c .before .before .before .before .before .before .loop .t .laid) (c .before .before .before .before .before .before .before .before .before .args .t2 .count + 1) (c .before .before .before .before .before .before .loop .i))
+laid-out c =
+    let a = c .before .before .before .before .before .before .before .before .before .args in
+    let k = c .before .before .before .before .before .before .loop in
+    let first = c .before .before .before .before .before .before .before .before .own-timeline .result in
+    let q = c .before .before .before .before .before .before .before .before .before .pre in
+    let l = c .before .before .before .if2 .left in
+    let h = c .before .before .before .before .if1 .taken in
+    let f = c .before .before .if5 .left in
+    let s = k .inv .1 in
+    let few : a .t2 .count + 1 ≤ 25 = omega (arith, q .0 .3) in
+    ⊎-elim
+    (λ w.
+    let e = not-true _ (w .0 .taken) in
+    let long : length (w .1 .result .edges) ≡ 3201 = search needs in (
+      rw (w .3, w .4) (onward-laid (diaries (a .t1) (a .t2 .entries) (a .t2 .count) first) (wants (a .t1) (a .t2 .entries) (a .t2 .count) first) (a .t2 .count + 1) (a .work) (a .from) (asks-wanted (a .t1) (a .t2 .entries) (a .t2 .count) first (a .t3) (k .inv .0)) (k .cs) (k .edges) (k .len) (k .t .at) (k .t .end) (k .t .free) (k .t .next) (k .t .laid) (k .i) s l e (q .0 .4) few (w .1 .result .edges) (w .1 .result .len) long (w .1 .ensures .0) (w .1 .ensures .1)),
+      λ x p g z. left-laid x (k .t .at) p (k .t .laid) (a .t2 .count + 1) (k .i) (g ∙ s .gathers e .begin ∙ sym (s .gathers e .start)) z e few,
+    ))
+    (λ w.
+    let e = not-false _ (w .0 .left) in
+    let t = s .walks e .tried h in (
+      rw (w .1, w .2) (onward-next (diaries (a .t1) (a .t2 .entries) (a .t2 .count) first) (wants (a .t1) (a .t2 .entries) (a .t2 .count) first) (a .t2 .count + 1) (a .work) (a .from) (asks-wanted (a .t1) (a .t2 .entries) (a .t2 .count) first (a .t3) (k .inv .0)) (k .cs) (k .edges) (k .len) (k .t .at) (k .t .end) (k .t .free) (k .t .next) (k .t .laid) (k .i) s l e h f),
+      λ x p g z. left-on x (k .t .at) p (k .t .laid) (a .t2 .count + 1) (k .i) (omega (arith, g, t .later)) (omega (arith, g, t .most)) z e few,
+    ))
+    (c .if6 .came)
+
+slice-aggregate-begun : tie.Need-slice-aggregate-begun Inv-loop μ-loop
+slice-aggregate-begun c = sym (laid-out (c .before) .0 .wide)
+
+begun-requires : tie.Need-begun-requires Inv-loop μ-loop
+begun-requires c κs =
+    let o = laid-out (c .before) .0 in
+    (o .short, omega (arith, o .short, o .wide), c .before .before .before .before .before .before .before .before .before .before .pre .0 .5, o .layout .edges)
+
+loop-less-2 : tie.Need-loop-less-2 Inv-loop μ-loop
+loop-less-2 c =
+    let u = c .begun .ensures in
+    laid-out (c .before .before) .1 _ _ (u .0) (u .2)
+
+loop-again-2 : tie.Need-loop-again-2 Inv-loop μ-loop
+loop-again-2 c =
+    let a = c .before .before .before .before .before .before .before .before .before .before .before .args in
+    let k = c .before .before .before .before .before .before .before .before .loop in
+    let first = c .before .before .before .before .before .before .before .before .before .before .own-timeline .result in
+    let u = c .begun .ensures in
+    let r = c .begun .result in
+    (k .inv .0, state-begun (diaries (a .t1) (a .t2 .entries) (a .t2 .count) first) (wants (a .t1) (a .t2 .entries) (a .t2 .count) first) (a .t2 .count + 1) (a .work) (a .from) (asks-wanted (a .t1) (a .t2 .entries) (a .t2 .count) first (a .t3) (k .inv .0)) (k .cs) (c .before .before .if6 .edges) (c .before .before .if6 .len) (k .t .next) (k .inv .1 .cells) (laid-out (c .before .before) .0) (r .at) (r .end) (r .free) (r .next) (r .laid) (u .0) (u .1) (u .2) (u .3))
+
+returns-2 : tie.Need-returns-2 Inv-loop μ-loop
+unfolding fitOf
+returns-2 c =
+    let a = c .before .before .before .before .before .args in
+    let k = c .before .before .loop in
+    let first = c .before .before .before .before .own-timeline .result in
+    state-over (diaries (a .t1) (a .t2 .entries) (a .t2 .count) first) (wants (a .t1) (a .t2 .entries) (a .t2 .count) first) (a .t2 .count + 1) (a .work) (a .from) (asks-wanted (a .t1) (a .t2 .entries) (a .t2 .count) first (a .t3) (k .inv .0)) (k .cs) (k .edges) (k .len) (k .t .at) (k .t .end) (k .t .free) (k .t .next) (k .t .laid) (k .i) (k .inv .1) (c .before .before .before .before .before .pre .0 .4) (c .if1 .left) ∙ answered (a .work) (a .from) (a .t1) (a .t2 .entries) (a .t2 .count) first (a .t3) (k .inv .0) (a .own) (c .before .before .before .before .own-timeline .ensures)
+
+pub fit-resumable-spec : {M : Type 1} → statement M
+fit-resumable-spec =
+    tie.close
+    (tie.spec
+    Inv-loop
+    μ-loop
+    own-timeline-requires
+    add-n
+    untried-requires
+    loop-holds
+    sub-x
+    mul-x
+    element-copy-out-x
+    cast-r
+    mul-r
+    array-read-r
+    mul-r-2
+    element-copy-out-r
+    asked-requires
+    mul-cs
+    array-set-from-cs
+    add-i
+    loop-less
+    loop-again
+    returns
+    joint-time-requires
+    slice-aggregate-begun
+    begun-requires
+    loop-less-2
+    loop-again-2
+    returns-2)

@@ -1,0 +1,140 @@
+// Fitting of resumable work: the least start over joint working time from which all are free to the joint end (`place_resumable` in
+// scheduler/simple.rs; 01, 'Fitting').
+use board::Board;
+use calendar::Calendar;
+use calendar::limits::NEVER;
+use entries::Entries;
+use fitting::Fit;
+use joint::WorkEnd;
+use timeline::ResourceTimeline;
+ghost use mathlib.Core.Path.{_≡_};
+ghost use mathlib.Core.Bool.{true, false, _&&_, cond};
+ghost use mathlib.Core.List.{_∷_};
+ghost use Prim.Native.Nat.{ℕ, suc, _^_, _≤_, _<_};
+ghost use lib.ListN.{length, getD, take};
+ghost use Rattle.calendar.specs.Search.{nothing, at};
+ghost use Rattle.calendar.specs.Valid as calendar;
+ghost use Rattle.calendar.specs.Work.{workEnd};
+ghost use Rattle.work_ends.specs.Layout.{Edges, laid, lastCell};
+ghost use Rattle.timeline.specs.Valid as timeline;
+ghost use Rattle.timeline.specs.Earliest.{freeOn};
+ghost use Rattle.timeline.proofs.Stepping.{Still};
+ghost use Rattle.board.specs.Resources.{onBoard};
+ghost use Rattle.board.specs.Valid.{valid};
+ghost use Rattle.scheduler.specs.Fitting.{sharesOf};
+ghost use Rattle.scheduler.specs.Owning.{ownShare};
+ghost use Rattle.alone.specs.Plans.{Known};
+ghost use Rattle.entries.specs.Parts.{noEntry};
+ghost use Rattle.fitting.specs.Jointly.{fitOf, jointly, ended};
+
+// An instant tried: the joint end of the work from it, whether all diaries asked so far are free up to that, and the next instant at
+// which something can first start on one of them; not laid while the joint time is not laid out yet.
+struct Trial {
+    at: u64,
+    end: u64,
+    free: bool,
+    next: u64,
+    laid: bool,
+}
+
+// The instant to begin at, with nothing laid out.
+fn untried(x: u64) -> Trial
+    ensures { λ r. ⌜ (r .at ≡ x) × (r .free ≡ false) × (r .next ≡ x) × (r .laid ≡ false) ⌝ }
+{
+    Trial {
+        at: x,
+        end: x,
+        free: false,
+        next: x,
+        laid: false,
+    }
+}
+
+// An instant with no diary asked yet; 2^63 has no end.
+fn begun(edges: &[u64], len: usize, x: u64, work: u64) -> Trial
+    requires { ⌜ (len ≤ 3201) × (len ≤ length (now edges)) × (work ≤ 2 ^ 53) × Edges (now edges) len ⌝ }
+    ensures { λ r. ⌜ (r .at ≡ x) × (r .next ≡ 2 ^ 63) × (r .laid ≡ true) × (x < 2 ^ 63 → cond (r .free) (at (r .end)) nothing ≡ workEnd (lastCell (now (edges .entry)) len) (laid (now (edges .entry)) len) x work) ⌝ }
+{
+    let mut t = untried(x);
+    t.next = NEVER;
+    t.laid = true;
+    if x < NEVER {
+        let end = joint::work_end(edges, len, x, work);
+        if let WorkEnd::At(e) = end {
+            t.end = e;
+            t.free = true;
+        }
+    }
+    t
+}
+
+// One diary more asked.
+fn asked(d: ResourceTimeline, units: u32, t: Trial) -> Trial
+    requires { ⌜ (timeline.valid d ≡ true) × (t .at < t .next) × (t .next ≤ 2 ^ 63) ⌝ }
+    ensures { λ r. ⌜ (r .at ≡ t .at) × (r .end ≡ t .end) × (r .laid ≡ t .laid) × (r .free ≡ t .free && freeOn d units (t .at) (t .end)) ⌝ }
+    ensures { λ r. ⌜ (t .at < r .next) × (r .next ≤ t .next) × ((y : ℕ) → t .at ≤ y → suc y < r .next → Still d (suc y)) ⌝ }
+{
+    let mut r = t;
+    if t.free {
+        r.free = free::is_free(d, t.at, t.end, units);
+    }
+    let c = candidates::next_candidate(d, t.at);
+    if c < t.next {
+        r.next = c;
+    }
+    r
+}
+
+// Resumable: the calendars are gathered and their joint time laid out, then one instant after another is tried on all diaries.
+pub fn fit_resumable(
+    b: Board,
+    e: Entries,
+    places: [usize; 16],
+    own: Calendar,
+    work: u64,
+    from: u64,
+) -> Fit
+    requires { ⌜ (valid b ≡ true) × Known b places × (calendar.valid own ≡ true) × (e .count ≤ 24) × (from ≤ 2 ^ 43) × (work ≤ 2 ^ 53) ⌝ }
+    requires { ⌜ ((k : ℕ) → k < e .count → (onBoard b (getD (e .entries) k noEntry .number) ≡ true) × (1 ≤ getD (e .entries) k noEntry .units)) ⌝ }
+    ensures { λ r. ⌜ fitOf r ≡ ended (ownShare own ∷ sharesOf b (take (e .count) (e .entries))) work (jointly (ownShare own ∷ sharesOf b (take (e .count) (e .entries))) work from) ⌝ }
+{
+    let first = fitting::own_timeline(own);
+    let n = e.count + 1;
+    let mut cs = [own; 25];
+    let mut edges: [u64; 3201] = [0; 3201];
+    let mut len: usize = 0;
+    let mut t = untried(from);
+    let mut i: usize = 0;
+    while t.at < NEVER {
+        if i < n {
+            let mut units: u32 = 1;
+            let d = if 0 < i {
+                let x = e.entries[i - 1];
+                let r = b.resources[places[x.number as usize]];
+                units = x.units;
+                r.timeline
+            } else {
+                first
+            };
+            if t.laid {
+                t = asked(d, units, t);
+            } else {
+                let c = d.calendar;
+                cs[i] = c;
+            }
+            i += 1;
+            continue;
+        }
+        if t.free {
+            return Fit::At(t.at, t.end);
+        }
+        if !t.laid {
+            let j = joint::joint_time(cs, n, from);
+            edges = j.edges;
+            len = j.len;
+        }
+        t = begun(&edges, len, t.next, work);
+        i = 0;
+    }
+    Fit::Nothing
+}

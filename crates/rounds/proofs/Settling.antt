@@ -1,0 +1,86 @@
+-- The rounds: t becomes the greatest start held, until it stays.
+use mathlib.Core.Path.{_≡_, refl, ap, _∙_, subst}
+use mathlib.Core.Bool.{true, false, cond}
+use mathlib.Core.List.{List, [], _∷_}
+use Prim.Native.Nat.{ℕ, suc, _+_, _-_, _^_, _≤_, _<_}
+use native.Mathlib.Omega.{arith}
+use lib.ListN.{getD, length, take}
+use lib.Seq.{getD-take, length-take-le}
+use lib.Dec.{eqb}
+use borrow.Author.Tests.{eq-eqb, ne-eqb}
+use Rattle.calendar.specs.Basics.{not-both}
+use Rattle.activity.specs.declared.Activity.{Activity}
+use Rattle.activity.specs.Check.{requirementsOf}
+use Rattle.board.specs.declared.Board.{Board}
+use Rattle.scheduler.specs.declared.Hold.{Hold}
+use Rattle.scheduler.specs.Choosing as scheduler
+use Rattle.scheduler.specs.Holds.{noHold, heldTo, OnPlaces}
+use Rattle.scheduler.specs.Arrays.{each-at}
+use Rattle.scheduler.specs.Lists.{Each, each-end, each-on}
+use Rattle.rounds.specs.declared.Holding.{Holding}
+use Rattle.rounds.specs.declared.Rounds.{Rounds}
+use Rattle.rounds.specs.Named.{latestStart}
+use Rattle.rounds.specs.Rounds.{Led, roundOf, choiceOf, Lasting, Chosen, Settled}
+use Rattle.rounds.proofs.Behind.{latest-is}
+
+pub led-start : (b : Board) (a : Activity) (ready : ℕ) → Led b a ready 0 ready
+unfolding scheduler.choosing
+led-start b a ready =
+    let z : 10000 - 0 ≡ 10000 = omega arith in
+    rw z refl
+
+-- all rounds are done
+pub led-end : (b : Board) (a : Activity) (ready i t : ℕ) → 10000 ≤ i → Led b a ready i t → scheduler.noChoice ≡ scheduler.choosing b a ready
+unfolding scheduler.rounds
+led-end b a ready i t l k =
+    let z : 10000 - i ≡ 0 = omega arith in
+    rw z at k
+
+module _ (b : Board) (a : Activity) (ready i t : ℕ) (l : i < 10000) (k : Led b a ready i t) (h : Holding) (e : roundOf b h ≡ scheduler.round b a ready t (requirementsOf a)) where
+  turn : scheduler.settle t (roundOf b h) (scheduler.rounds (10000 - (i + 1)) b a ready) ≡ scheduler.choosing b a ready
+  unfolding scheduler.rounds
+  turn =
+      let z : 10000 - i ≡ suc (10000 - (i + 1)) = omega arith in
+      ap (λ (r : scheduler.Round). scheduler.settle t r (scheduler.rounds (10000 - (i + 1)) b a ready)) e ∙ (rw z at k)
+
+  -- too few
+  pub led-short : h .enough ≡ false → scheduler.noChoice ≡ scheduler.choosing b a ready
+  unfolding roundOf scheduler.settle
+  led-short f = rw f at turn
+
+  held : h .enough ≡ true → cond (eqb (latestStart (take (h .count) (h .held))) t) (scheduler.chosen t (heldTo b (h .held) (h .count))) (scheduler.rounds (10000 - (i + 1)) b a ready (latestStart (take (h .count) (h .held)))) ≡ scheduler.choosing b a ready
+  unfolding roundOf scheduler.settle
+  held f = rw (latest-is b (take (h .count) (h .held))) (rw f at turn)
+
+  -- t stays
+  pub led-stays : h .enough ≡ true → latestStart (take (h .count) (h .held)) ≡ t → scheduler.chosen t (heldTo b (h .held) (h .count)) ≡ scheduler.choosing b a ready
+  led-stays f s = rw (eq-eqb (latestStart (take (h .count) (h .held))) t s) at (held f)
+
+  -- or goes on
+  pub led-on : h .enough ≡ true → (latestStart (take (h .count) (h .held)) ≡ t → ⊥) → Led b a ready (i + 1) (latestStart (take (h .count) (h .held)))
+  led-on f s = rw (ne-eqb (latestStart (take (h .count) (h .held))) t s) at (held f)
+
+-- those held start by 2^43
+pub latest-soon : (b : Board) (hs : List Hold) → Each (Lasting b) hs → latestStart hs ≤ 2 ^ 43
+unfolding latestStart
+latest-soon b [] each-end = omega arith
+latest-soon b (h ∷ hs) (each-on f a) = omega (arith, f .soon, latest-soon b hs a)
+
+-- and stand on the board
+pub on-places : (b : Board) (hs : List Hold) (n : ℕ) → n ≤ length hs → Each (Lasting b) (take n hs) → OnPlaces b hs n
+on-places b hs n m a = record { stands = λ k l. one k l .stands; some = λ k l. one k l .some }
+  where
+    one : (k : ℕ) → k < n → Lasting b (getD hs k noHold)
+    one k l =
+        let e : length (take n hs) ≡ n = length-take-le n hs m in
+        subst (Lasting b) (getD-take n hs k noHold l) (each-at (Lasting b) noHold (take n hs) a k (omega arith))
+
+-- no choice: the rounds are done, or have led on
+pub settled-none : (b : Board) (a : Activity) (ready : ℕ) (x : Rounds) → x .choice .chosen ≡ false → x .choice .instant ≡ 0
+    → (x .done ≡ true → scheduler.noChoice ≡ scheduler.choosing b a ready) → (x .done ≡ false → (x .count < 10000) × (x .instant ≤ 2 ^ 43) × Led b a ready (x .count) (x .instant)) → Settled b a ready x
+unfolding choiceOf
+settled-none b a ready x e f ends goes = record { ends = λ d. rw e (ends d); goes = goes; soon = omega arith; chosen = λ d. absurd (not-both _ d e) }
+
+-- a choice
+pub settled-chosen : (b : Board) (a : Activity) (ready : ℕ) (x : Rounds) → x .done ≡ true → choiceOf b (x .choice) ≡ scheduler.choosing b a ready → x .choice .instant ≤ 2 ^ 43 → Chosen b a ready (x .choice) → Settled b a ready x
+settled-chosen b a ready x d e f h = record { ends = λ z. e; goes = λ z. absurd (not-both _ d z); soon = f; chosen = λ z. h }

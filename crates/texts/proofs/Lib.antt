@@ -1,0 +1,3 @@
+-- Laws on plain lists, for the proofs of this crate.
+pub mod Figures
+pub mod Pasting

@@ -1,0 +1,57 @@
+// The end of work over working time that is laid out as the rising instants at which it begins and ends (JointTime::work_end in
+// models/calendar.rs; 01, the paragraph on calendars).
+ghost use mathlib.Core.Path.{_≡_};
+ghost use Prim.Native.Nat.{_^_, _≤_, _<_};
+ghost use lib.ListN.{length};
+ghost use Rattle.calendar.specs.Work.{workEnd};
+ghost use Rattle.work_ends.specs.Layout.{laid, lastCell, Edges, Cells, Parted, foundOf};
+
+// How many of the first n cells, which rise, are at or before p.
+fn edges_passed(xs: &[u64], n: usize, p: u64) -> usize
+    requires { ⌜ (n ≤ 4096) × Cells (now xs) n ⌝ }
+    ensures { λ r. ⌜ Parted (now (xs .entry)) n p r ⌝ }
+{
+    let mut low: usize = 0;
+    let mut high = n;
+    while low < high {
+        let mid = low + (high - low) / 2;
+        if xs[mid] <= p {
+            low = mid + 1;
+        } else {
+            high = mid;
+        }
+    }
+    low
+}
+
+pub enum WorkEnd {
+    At(u64),
+    Nothing,
+}
+
+// When work that starts at `start` ends: nothing from a pause or with too little time left.
+pub fn work_end(edges: &[u64], len: usize, start: u64, work: u64) -> WorkEnd
+    requires { ⌜ (len ≤ 4096) × (len ≤ length (now edges)) × (start < 2 ^ 63) × (work < 2 ^ 63) ⌝ }
+    requires { ⌜ Edges (now edges) len ⌝ }
+    ensures { λ r. ⌜ foundOf r ≡ workEnd (lastCell (now (edges .entry)) len) (laid (now (edges .entry)) len) start work ⌝ }
+{
+    let mut k = edges_passed(edges, len, start);
+    if k % 2 == 0 {
+        return WorkEnd::Nothing;
+    }
+    let mut at = start;
+    let mut left = work;
+    while k < len {
+        let end = edges[k];
+        if left <= end - at {
+            return WorkEnd::At(at + left);
+        }
+        if k + 1 == len {
+            return WorkEnd::Nothing;
+        }
+        left -= end - at;
+        at = edges[k + 1];
+        k += 2;
+    }
+    WorkEnd::At(at + left)
+}
