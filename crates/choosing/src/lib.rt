@@ -19,8 +19,6 @@ pub fn choose(b: Board, a: Activity, ready: u64, places: [usize; 16]) -> Choice
     requires { ⌜ (valid b ≡ true) × (activityRefusal a ready ≡ 0) × Known b places ⌝ }
     ensures { λ r. ⌜ (choiceOf b r ≡ choosing b a ready) × (r .instant ≤ 2 ^ 43) × (r .chosen ≡ true → Chosen b a ready r) ⌝ }
 {
-    let len = b.len;
-    let transport = b.transport;
     let mut plans = plans::no_plans();
     let mut asked: [u64; 64] = [1; 64];
     let mut starts: [u64; 64] = [0; 64];
@@ -28,13 +26,13 @@ pub fn choose(b: Board, a: Activity, ready: u64, places: [usize; 16]) -> Choice
     let mut planned: usize = 0;
     let mut k: usize = 0;
     while !x.done {
-        if planned < len {
+        if planned < b.len {
             let r = b.resources[planned];
-            plans[planned] = plans::plan_of(r, a, ready, &transport);
+            plans[planned] = plans::plan_of(r, a, ready, &b.transport);
             planned += 1;
         } else if k < 16 * a.len {
             let place = k % 16;
-            if answering::is_asked(place, len, asked[k], starts[k], x.instant) {
+            if answering::is_asked(place, b.len, asked[k], starts[k], x.instant) {
                 let q = a.requirements[k / 16];
                 let p = plans[place];
                 let mut s = Start::Nothing;
@@ -55,7 +53,7 @@ pub fn choose(b: Board, a: Activity, ready: u64, places: [usize; 16]) -> Choice
             }
             k += 1;
         } else {
-            x = rounds::settled(x, plans, starts, len, a);
+            x = rounds::settled(x, plans, starts, b.len, a);
             k = 0;
         }
     }
