@@ -7,9 +7,11 @@ use calendar::limits::MOST_UNITS;
 mod insert;
 
 ghost use mathlib.Core.Path.{_≡_};
-ghost use mathlib.Core.Bool.{true};
+ghost use mathlib.Core.Bool.{true, _&&_};
 ghost use Prim.Native.Nat.{_-_, _^_, _≤_, _<_};
-ghost use Rattle.timeline.specs.Valid.{cellRight, cellEmpty, cellsRight, valid};
+ghost use Rattle.timeline.specs.Valid.{cellRight, cellEmpty, filledFrom, emptyFrom, cellsRight, valid};
+ghost use Rattle.timeline.specs.Bookings.{bookings, total};
+ghost use lib.Dec.{eqb};
 ghost use Rattle.timeline.specs.Diary.{capacityOf, newDiary};
 ghost use Rattle.timeline.specs.Book.{bookReply, bookRefusal};
 
@@ -69,11 +71,10 @@ fn cell_empty(s: u64, e: u64, u: u32, l: u64) -> bool
     l == 0
 }
 
-// The filled cells keep the rules, those past the length are empty, and the booked total is that of the cells: in one function, so that
-// the diary is copied once.
-fn cells_right(t: ResourceTimeline) -> bool
+// The cells up to the length are filled, and the booked total is theirs.
+fn filled(t: ResourceTimeline) -> bool
     requires { ⌜ t .len ≤ 64 ⌝ }
-    ensures { λ r. ⌜ r ≡ cellsRight t ⌝ }
+    ensures { λ r. ⌜ r ≡ filledFrom t 0 (t .len) && eqb (t .booked) (total (bookings t)) ⌝ }
 {
     let len = t.len;
     let mut ps: u64 = 0;
@@ -93,13 +94,33 @@ fn cells_right(t: ResourceTimeline) -> bool
         pl = l;
         i += 1;
     }
+    t.booked == sum
+}
+
+// The cells past it are empty.
+fn empty(t: ResourceTimeline) -> bool
+    requires { ⌜ t .len ≤ 64 ⌝ }
+    ensures { λ r. ⌜ r ≡ emptyFrom t (t .len) (64 - t .len) ⌝ }
+{
+    let mut i = t.len;
     while i < 64 {
         if !cell_empty(t.starts[i], t.ends[i], t.units[i], t.latest[i]) {
             return false;
         }
         i += 1;
     }
-    t.booked == sum
+    true
+}
+
+// Both.
+fn cells_right(t: ResourceTimeline) -> bool
+    requires { ⌜ t .len ≤ 64 ⌝ }
+    ensures { λ r. ⌜ r ≡ cellsRight t ⌝ }
+{
+    if !filled(t) {
+        return false;
+    }
+    empty(t)
 }
 
 // The diary keeps the rules.

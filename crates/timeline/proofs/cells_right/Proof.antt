@@ -1,224 +1,42 @@
--- `timeline::cells_right` meets its contract. The first loop: what is left of the definition, and the total of the bookings passed, each
--- part of it small; the second: what is left of the empty cells.
+-- `timeline::cells_right` meets its contract.
 use borrow.Author.Needs.{needs}
 use borrow.Author.Tests.{not-true, not-false}
-use mathlib.Core.Bool.{true, false}
+use mathlib.Core.Bool.{Bool, true, false, _&&_}
 use mathlib.Core.Path.{_≡_, refl, sym, _∙_}
-use Prim.Native.Nat.{_-_, _*_, _≤_}
-use native.Mathlib.Nat.{sub-zero}
-use native.Mathlib.Omega.{arith}
-use lib.ListN.{getD}
-use Rattle.timeline.specs.Bookings.{bookingAt, bookingsTo, bookings, total}
-use Rattle.timeline.specs.Valid.{before, filledFrom, emptyFrom}
-use Rattle.timeline.proofs.Rules.{filled-step, empty-step, before-step, cell-facts, CellFacts}
-use Rattle.timeline.proofs.Rows.{weight-le, total-snoc, rows-step}
+use Prim.Native.Nat.{_-_}
+use lib.Dec.{eqb}
+use Rattle.calendar.specs.Basics.{not-both}
+use Rattle.timeline.specs.Bookings.{bookings, total}
+use Rattle.timeline.specs.Valid.{filledFrom, emptyFrom}
 use Rattle.timeline.proofs.cells_right.Statement.{statement}
 use Rattle.timeline.proofs.cells_right.Tie as tie
 
-abbrev Inv-loop : tie.InvT-loop
-Inv-loop t len ps₀ pl₀ sum₀ i₀ ps pl sum i =
-    (len ≡ t .len) × (len ≤ 64) × (i ≤ len) × (ps ≡ before (t .starts) i) × (pl ≡ before (t .latest) i)
-    × (filledFrom t 0 (t .len) ≡ filledFrom t i (len - i)) × (sum ≡ total (bookingsTo (t .starts) (t .ends) (t .units) i)) × (sum ≤ i * 43980465111040000)
+-- the last of three first
+wrong : (p q r : Bool) → p && r ≡ false → false ≡ p && (q && r)
+wrong true true r e = sym e
+wrong true false r e = refl
+wrong false q r e = refl
 
-abbrev μ-loop : tie.MeasureT-loop
-μ-loop t len ps₀ pl₀ sum₀ i₀ ps pl sum i = len - i
+right : (p q r : Bool) → p && r ≡ true → q ≡ p && (q && r)
+right true true r e = sym e
+right true false r e = refl
+right false q r e = absurd (not-both false e refl)
 
-abbrev Inv-loop2 : tie.InvT-loop2
-Inv-loop2 t len ps pl sum i₀ i =
-    (i ≤ 64) × (filledFrom t 0 (t .len) ≡ true) × (sum ≡ total (bookings t)) × (emptyFrom t (t .len) (64 - t .len) ≡ emptyFrom t i (64 - i))
+filled-requires : tie.Need-filled-requires
+filled-requires c κs = search needs
 
-abbrev μ-loop2 : tie.MeasureT-loop2
-μ-loop2 t len ps pl sum i₀ i = 64 - i
-
--- what the rules say of the cell at hand
-facts : (c : tie.Else1 Inv-loop μ-loop Inv-loop2 μ-loop2)
-    → let t = c .before .before .before .before .before .before .before .before .args .t1 in
-    let i = c .before .before .before .before .before .before .before .loop .i in
-    CellFacts (getD (t .starts) i 0) (getD (t .ends) i 0) (getD (t .units) i 0) (getD (t .latest) i 0) (c .before .before .before .before .before .before .before .loop .ps) (c .before .before .before .before .before .before .before .loop .pl)
-facts c = cell-facts _ _ _ _ _ _ (sym (c .before .cell-right .ensures) ∙ not-false _ (c .if1 .left))
-
--- the cell's part of the total is small
-small : (c : tie.Else1 Inv-loop μ-loop Inv-loop2 μ-loop2)
-    → let t = c .before .before .before .before .before .before .before .before .args .t1 in
-    let i = c .before .before .before .before .before .before .before .loop .i in
-    (getD (t .ends) i 0 - getD (t .starts) i 0) * getD (t .units) i 0 ≤ 43980465111040000
-small c = weight-le _ _ _ (facts c .range) (facts c .few)
-
-loop-holds : tie.Need-loop-holds Inv-loop μ-loop Inv-loop2 μ-loop2
-unfolding before total bookingsTo
-loop-holds c = (refl, c .pre, omega arith, refl, refl, simp sub-zero, refl, omega arith)
-
-mul-s : tie.Need-mul-s Inv-loop μ-loop Inv-loop2 μ-loop2
-mul-s c = search needs
-
-element-copy-out-s : tie.Need-element-copy-out-s Inv-loop μ-loop Inv-loop2 μ-loop2
-element-copy-out-s c = search needs
-
-mul-e : tie.Need-mul-e Inv-loop μ-loop Inv-loop2 μ-loop2
-mul-e c = search needs
-
-element-copy-out-e : tie.Need-element-copy-out-e Inv-loop μ-loop Inv-loop2 μ-loop2
-element-copy-out-e c = search needs
-
-mul-u : tie.Need-mul-u Inv-loop μ-loop Inv-loop2 μ-loop2
-mul-u c = search needs
-
-element-copy-out-u : tie.Need-element-copy-out-u Inv-loop μ-loop Inv-loop2 μ-loop2
-element-copy-out-u c = search needs
-
-mul-l : tie.Need-mul-l Inv-loop μ-loop Inv-loop2 μ-loop2
-mul-l c = search needs
-
-element-copy-out-l : tie.Need-element-copy-out-l Inv-loop μ-loop Inv-loop2 μ-loop2
-element-copy-out-l c = search needs
-
-cell-right-requires : tie.Need-cell-right-requires Inv-loop μ-loop Inv-loop2 μ-loop2
-cell-right-requires c κs = search needs
-
-returns : tie.Need-returns Inv-loop μ-loop Inv-loop2 μ-loop2
+returns : tie.Need-returns
 returns c =
-    let e = sym (c .before .cell-right .ensures) ∙ not-true _ (c .if1 .taken) in
-    let d = c .before .before .before .before .before .before in
-    let t = d .before .before .args .t1 in
-    let f : filledFrom t 0 (t .len) ≡ false = d .before .loop .inv .5 ∙ filled-step _ _ _ (d .loop-test .taken) ∙ rw (← d .before .loop .inv .3, ← d .before .loop .inv .4, e) refl in
-    rw f refl
+    let t = c .before .before .args .t in
+    wrong (filledFrom t 0 (t .len)) (emptyFrom t (t .len) (64 - t .len)) (eqb (t .booked) (total (bookings t))) (sym (c .before .filled .ensures) ∙ not-true _ (c .if1 .taken))
 
-sub-sum : tie.Need-sub-sum Inv-loop μ-loop Inv-loop2 μ-loop2
-sub-sum c =
-    let f = facts c in
-    omega arith
+empty-requires : tie.Need-empty-requires
+empty-requires c κs = search needs
 
-cast-sum : tie.Need-cast-sum Inv-loop μ-loop Inv-loop2 μ-loop2
-cast-sum c =
-    let f = facts c in
-    omega arith
-
-mul-sum : tie.Need-mul-sum Inv-loop μ-loop Inv-loop2 μ-loop2
-mul-sum c = omega (arith, small c)
-
-add-sum : tie.Need-add-sum Inv-loop μ-loop Inv-loop2 μ-loop2
-add-sum c = omega (arith, small c)
-
-add-i : tie.Need-add-i Inv-loop μ-loop Inv-loop2 μ-loop2
-add-i c = search needs
-
-loop-less : tie.Need-loop-less Inv-loop μ-loop Inv-loop2 μ-loop2
-loop-less c = search needs
-
-loop-again : tie.Need-loop-again Inv-loop μ-loop Inv-loop2 μ-loop2
-loop-again c =
-    let e = sym (c .before .cell-right .ensures) ∙ not-false _ (c .if1 .left) in
-    let d = c .before .before .before .before .before .before in
-    let i = d .before .loop .i in
-    let t = d .before .before .args .t1 in
-    (refl, omega arith, omega arith, before-step _ _, before-step _ _, d .before .loop .inv .5 ∙ filled-step _ _ _ (d .loop-test .taken) ∙ rw (← d .before .loop .inv .3, ← d .before .loop .inv .4, e) refl, cc (rows-step (t .starts) (t .ends) (t .units) i, total-snoc (bookingsTo (t .starts) (t .ends) (t .units) i) (bookingAt (t .starts) (t .ends) (t .units) i)), omega (arith, small c))
-
-loop2-holds : tie.Need-loop2-holds Inv-loop μ-loop Inv-loop2 μ-loop2
-unfolding filledFrom
-loop2-holds c =
-    let t = c .before .before .args .t1 in
-    let i = c .before .loop .i in
-    let e : t .len - i ≡ 0 = omega arith in
-    let f : i ≡ t .len = omega arith in
-    (omega arith, c .before .loop .inv .5 ∙ rw e refl, c .before .loop .inv .6 ∙ rw f refl, rw f refl)
-
-mul-cell-empty : tie.Need-mul-cell-empty Inv-loop μ-loop Inv-loop2 μ-loop2
-mul-cell-empty c = search needs
-
-element-copy-out-cell-empty :
-    tie.Need-element-copy-out-cell-empty Inv-loop μ-loop Inv-loop2 μ-loop2
-element-copy-out-cell-empty c = search needs
-
-mul-cell-empty-2 : tie.Need-mul-cell-empty-2 Inv-loop μ-loop Inv-loop2 μ-loop2
-mul-cell-empty-2 c = search needs
-
-element-copy-out-cell-empty-2 :
-    tie.Need-element-copy-out-cell-empty-2 Inv-loop μ-loop Inv-loop2 μ-loop2
-element-copy-out-cell-empty-2 c = search needs
-
-mul-cell-empty-3 : tie.Need-mul-cell-empty-3 Inv-loop μ-loop Inv-loop2 μ-loop2
-mul-cell-empty-3 c = search needs
-
-element-copy-out-cell-empty-3 :
-    tie.Need-element-copy-out-cell-empty-3 Inv-loop μ-loop Inv-loop2 μ-loop2
-element-copy-out-cell-empty-3 c = search needs
-
-mul-cell-empty-4 : tie.Need-mul-cell-empty-4 Inv-loop μ-loop Inv-loop2 μ-loop2
-mul-cell-empty-4 c = search needs
-
-element-copy-out-cell-empty-4 :
-    tie.Need-element-copy-out-cell-empty-4 Inv-loop μ-loop Inv-loop2 μ-loop2
-element-copy-out-cell-empty-4 c = search needs
-
-cell-empty-requires : tie.Need-cell-empty-requires Inv-loop μ-loop Inv-loop2 μ-loop2
-cell-empty-requires c κs = search needs
-
-returns-2 : tie.Need-returns-2 Inv-loop μ-loop Inv-loop2 μ-loop2
+returns-2 : tie.Need-returns-2
 returns-2 c =
-    let e = sym (c .before .cell-empty .ensures) ∙ not-true _ (c .if2 .taken) in
-    let d = c .before .before .before .before .before .before in
-    let t = d .before .before .before .before .args .t1 in
-    let f : emptyFrom t (t .len) (64 - t .len) ≡ false = d .before .loop2 .inv .3 ∙ empty-step _ _ _ (d .loop2-test .taken) ∙ rw e refl in
-    rw (d .before .loop2 .inv .1, f) refl
-
-add-i-2 : tie.Need-add-i-2 Inv-loop μ-loop Inv-loop2 μ-loop2
-add-i-2 c = search needs
-
-loop2-less : tie.Need-loop2-less Inv-loop μ-loop Inv-loop2 μ-loop2
-loop2-less c = search needs
-
-loop2-again : tie.Need-loop2-again Inv-loop μ-loop Inv-loop2 μ-loop2
-loop2-again c =
-    let e = sym (c .before .cell-empty .ensures) ∙ not-false _ (c .if2 .left) in
-    let d = c .before .before .before .before .before .before in
-    (omega arith, d .before .loop2 .inv .1, d .before .loop2 .inv .2, d .before .loop2 .inv .3 ∙ empty-step _ _ _ (d .loop2-test .taken) ∙ rw e refl)
-
-returns-3 : tie.Need-returns-3 Inv-loop μ-loop Inv-loop2 μ-loop2
-unfolding emptyFrom
-returns-3 c =
-    let e : 64 - c .before .loop2 .i ≡ 0 = omega arith in
-    let t = c .before .before .before .before .args .t1 in
-    let f : emptyFrom t (t .len) (64 - t .len) ≡ true = c .before .loop2 .inv .3 ∙ rw e refl in
-    rw (c .before .loop2 .inv .1, f, ← c .before .loop2 .inv .2) refl
+    let t = c .before .before .before .args .t in
+    c .empty .ensures ∙ right (filledFrom t 0 (t .len)) (emptyFrom t (t .len) (64 - t .len)) (eqb (t .booked) (total (bookings t))) (sym (c .before .before .filled .ensures) ∙ not-false _ (c .before .if1 .left))
 
 pub cells-right-spec : {M : Type 1} → statement M
-cells-right-spec =
-    tie.close
-    (tie.spec
-    Inv-loop
-    μ-loop
-    Inv-loop2
-    μ-loop2
-    loop-holds
-    mul-s
-    element-copy-out-s
-    mul-e
-    element-copy-out-e
-    mul-u
-    element-copy-out-u
-    mul-l
-    element-copy-out-l
-    cell-right-requires
-    returns
-    sub-sum
-    cast-sum
-    mul-sum
-    add-sum
-    add-i
-    loop-less
-    loop-again
-    loop2-holds
-    mul-cell-empty
-    element-copy-out-cell-empty
-    mul-cell-empty-2
-    element-copy-out-cell-empty-2
-    mul-cell-empty-3
-    element-copy-out-cell-empty-3
-    mul-cell-empty-4
-    element-copy-out-cell-empty-4
-    cell-empty-requires
-    returns-2
-    add-i-2
-    loop2-less
-    loop2-again
-    returns-3)
+cells-right-spec = tie.close (tie.spec filled-requires returns empty-requires returns-2)
