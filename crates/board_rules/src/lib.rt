@@ -6,27 +6,30 @@ mod rules;
 
 ghost use mathlib.Core.Path.{_≡_};
 ghost use mathlib.Core.Bool.{true};
-ghost use Prim.Native.Nat.{ℕ, _<_};
+ghost use Prim.Native.Nat.{ℕ, _≤_, _<_};
 ghost use lib.ListN.{getD};
-ghost use Rattle.board.specs.Resources.{lookup};
+ghost use Rattle.board.specs.Resources.{resourceAt, lookup};
 ghost use Rattle.board.specs.Valid.{valid};
 ghost use Rattle.board.specs.Places.{placeOf};
 
-// Whether the board keeps the rules; if so, the place of each number on it, 16 for a number that is not there.
+// Whether the board keeps the rules; if so, the place of each number on it, 16 for a number that is not there, and how many bookings
+// the diary at each place has.
 pub struct Places {
     pub right: bool,
     pub places: [usize; 16],
+    pub lens: [u64; 16],
 }
 
 pub fn places_of(b: Board) -> Places
-    ensures { λ r. ⌜ r .right ≡ valid b ⌝ }
-    ensures { λ r. ⌜ ((n : ℕ) → n < 16 → valid b ≡ true → getD (r .places) n 0 ≡ placeOf (lookup b n)) ⌝ }
+    ensures { λ r. ⌜ (r .right ≡ valid b) × ((n : ℕ) → n < 16 → valid b ≡ true → getD (r .places) n 0 ≡ placeOf (lookup b n)) × ((i : ℕ) → i < b .len → valid b ≡ true → getD (r .lens) i 0 ≡ resourceAt b i .timeline .len) × ((i : ℕ) → i < 16 → valid b ≡ true → getD (r .lens) i 0 ≤ 64) ⌝ }
 {
     let len = b.len;
     let mut places: [usize; 16] = [16; 16];
+    let mut lens: [u64; 16] = [0; 16];
     let wrong = Places {
         right: false,
         places: places,
+        lens: lens,
     };
     if len > 16 {
         return wrong;
@@ -48,6 +51,8 @@ pub fn places_of(b: Board) -> Places
                 return wrong;
             }
         }
+        let t = r.timeline;
+        lens[i] = t.len as u64;
         i += 1;
     }
     let transport = b.transport;
@@ -55,6 +60,7 @@ pub fn places_of(b: Board) -> Places
     Places {
         right: right,
         places: places,
+        lens: lens,
     }
 }
 

@@ -12,7 +12,7 @@ use borrow.Author.Tests.{ltb-true, lt-ltb, le-ltb, lt-leb, le-leb, eq-eqb, eqb-t
 use Rattle.calendar.specs.Basics.{and-split, and-false, same-or-not}
 use Rattle.activity.specs.Check.{every}
 use Rattle.board.specs.declared.Board.{Board}
-use Rattle.board.specs.Resources.{resourceAt, isAt, onBoard}
+use Rattle.board.specs.Resources.{isAt, onBoard}
 use Rattle.board.specs.Valid.{valid}
 use Rattle.board.proofs.Facts.{rules}
 use Rattle.scheduler.specs.Alone.{diaryOf}
@@ -22,7 +22,7 @@ use Rattle.scheduler.specs.Ruled.{diary-at}
 use Rattle.scheduler.specs.Tests.{both-ways}
 use Rattle.alone.specs.Plans.{Known}
 use Rattle.alone.proofs.Knowing.{place-on, number-place}
-use Rattle.commit_checks.specs.Lines.{numbered, metered, roomy, Counted}
+use Rattle.commit_checks.specs.Lines.{numbered, metered, roomy, Counted, Lengths}
 
 -- the lines are the first rows, read one by one
 pub lines-rows : (n : ℕ) (slate : List (List ℕ)) → linesOf n slate ≡ map lineOf (take n slate)
@@ -148,17 +148,6 @@ counted-next slate i tally long l m h k n =
     plain : getD tally k 0 + 0 ≡ getD tally k 0
     plain = omega arith
 
--- the lengths of the diaries: one place more
-pub few-none : (k : ℕ) → k < 16 → getD (replicate 16 0) k 0 ≤ 64
-few-none k l = rw (getD-replicate {A = ℕ} 16 k 0 0 l) (omega arith)
-
-pub few-next : (xs : List ℕ) (i v : ℕ) → i < length xs → v ≤ 64 → ((k : ℕ) → k < 16 → getD xs k 0 ≤ 64) → (k : ℕ) → k < 16 → getD (set xs i v) k 0 ≤ 64
-few-next xs i v l m h k n =
-    ⊎-elim
-    (λ (z : i ≡ k). rw (← z, getD-set-same xs i v 0 l) m)
-    (λ (z : k ≡ i → ⊥). rw (getD-set-other xs i k v 0 z) (h k n))
-    (same-or-not i k)
-
 -- the checks of the rows are those of the lines
 module _ (b : Board) (v : valid b ≡ true) (places : List ℕ) (known : Known b places) where
   -- a number with a place is on the board
@@ -175,7 +164,7 @@ module _ (b : Board) (v : valid b ≡ true) (places : List ℕ) (known : Known b
       ∙ sym (every-map (λ l. onBoard b (l .number)) lineOf (take n slate))
       ∙ sym (ap (every (λ (l : Line). onBoard b (l .number))) (lines-rows n slate))
 
-  module _ (lens tally : List ℕ) (n : ℕ) (slate : List (List ℕ)) (long : (i : ℕ) → i < b .len → getD lens i 0 ≡ resourceAt b i .timeline .len) (counted : Counted slate n tally) where
+  module _ (lens tally : List ℕ) (n : ℕ) (slate : List (List ℕ)) (long : Lengths b lens) (counted : Counted slate n tally) where
     roomy-is : (row : List ℕ) → numbered places row ≡ true → roomy places lens tally row ≡ leb (diaryOf b (lineOf row .number) .len + entriesOn (lineOf row .number) (linesOf n slate)) 64
     unfolding roomy
     roomy-is row e =

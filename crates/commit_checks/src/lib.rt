@@ -1,5 +1,4 @@
 // The checks of a commitment's rows (01, 'Committing': 5, 1, 2, 3, 4), each over all of them before the next.
-use board::Board;
 use calendar::limits::LAST_INSTANT;
 ghost use mathlib.Core.Path.{_≡_};
 ghost use mathlib.Core.Bool.{true};
@@ -7,11 +6,11 @@ ghost use mathlib.Core.List.{[]};
 ghost use Prim.Native.Nat.{ℕ, _≤_, _<_};
 ghost use lib.ListN.{length, getD, take};
 ghost use Rattle.activity.specs.Check.{every};
-ghost use Rattle.board.specs.Resources.{resourceAt};
+ghost use Rattle.board.specs.declared.Board as declared;
 ghost use Rattle.board.specs.Valid.{valid};
 ghost use Rattle.scheduler.specs.Committing.{linesOf, linesRefusal};
 ghost use Rattle.alone.specs.Plans.{Known};
-ghost use Rattle.commit_checks.specs.Lines.{numbered, metered, roomy, Counted};
+ghost use Rattle.commit_checks.specs.Lines.{numbered, metered, roomy, Counted, Lengths};
 
 // Each of the first `count` rows names a resource on the board.
 fn numbers_right(slate: &[[u64; 4]], count: usize, places: [usize; 16]) -> bool
@@ -69,23 +68,6 @@ fn tally_of(slate: &[[u64; 4]], count: usize) -> [u64; 16]
     tally
 }
 
-// How many bookings each diary has, by its place on the board.
-fn lens_of(b: Board) -> [u64; 16]
-    requires { ⌜ valid b ≡ true ⌝ }
-    ensures { λ r. ⌜ ((i : ℕ) → i < b .len → getD r i 0 ≡ resourceAt b i .timeline .len) × ((i : ℕ) → i < 16 → getD r i 0 ≤ 64) ⌝ }
-{
-    let len = b.len;
-    let mut lens: [u64; 16] = [0; 16];
-    let mut i: usize = 0;
-    while i < len {
-        let r = b.resources[i];
-        let t = r.timeline;
-        lens[i] = t.len as u64;
-        i += 1;
-    }
-    lens
-}
-
 // Each diary named has places for all its entries.
 fn room_right(
     slate: &[[u64; 4]],
@@ -111,9 +93,9 @@ fn room_right(
     true
 }
 
-// The refusal of some rows, 0 for none.
+// The refusal of some rows, 0 for none, on any board with these places and as many bookings in its diaries.
 pub fn lines_refusal(
-    b: Board,
+    lens: [u64; 16],
     places: [usize; 16],
     slate: &[[u64; 4]],
     count: usize,
@@ -121,8 +103,8 @@ pub fn lines_refusal(
     end: u64,
     category: u8,
 ) -> u8
-    requires { ⌜ (valid b ≡ true) × Known b places × (count ≤ length (now slate)) ⌝ }
-    ensures { λ r. ⌜ r ≡ linesRefusal b (linesOf count (now (slate .entry))) start end category ⌝ }
+    requires { ⌜ (count ≤ length (now slate)) × ((k : ℕ) → k < 16 → getD lens k 0 ≤ 64) ⌝ }
+    ensures { λ r. ⌜ ((b : declared.Board) → valid b ≡ true → Known b places → Lengths b lens → r ≡ linesRefusal b (linesOf count (now (slate .entry))) start end category) ⌝ }
 {
     if !numbers_right(slate, count, places) {
         return 5;
@@ -143,7 +125,6 @@ pub fn lines_refusal(
         return 3;
     }
     let tally = tally_of(slate, count);
-    let lens = lens_of(b);
     if !room_right(slate, count, places, lens, tally) {
         return 4;
     }

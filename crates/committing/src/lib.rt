@@ -103,7 +103,8 @@ pub fn commit(
         };
     }
     let places = p.places;
-    let refusal = commit_checks::lines_refusal(b, places, slate, count, start, end, category);
+    let lens = p.lens;
+    let refusal = commit_checks::lines_refusal(lens, places, slate, count, start, end, category);
     if refusal != 0 {
         return Entered {
             refusal: refusal,

@@ -1,4 +1,5 @@
--- `board_rules::places_of` meets its contract. The loop: the cells left decide as all do, and the table has the places of the numbers passed.
+-- `board_rules::places_of` meets its contract. The loop: the cells left decide as all do, and the tables have the places of the numbers and the lengths of
+-- the diaries passed.
 use borrow.Author.Needs.{needs}
 use borrow.Author.Tests.{not-true, not-false, lt-ltb, le-ltb}
 use mathlib.Core.Bool.{true, _&&_}
@@ -6,30 +7,32 @@ use mathlib.Core.Logic.{⊎-elim}
 use mathlib.Core.Path.{_≡_, refl, sym, _∙_}
 use Prim.Native.Nat.{_+_, _-_, _≤_, min}
 use native.Mathlib.Omega.{arith}
-use lib.ListN.{replicate}
+use lib.ListN.{length, replicate, length-set}
 use Rattle.board.specs.Resources.{numberAt}
 use Rattle.board.specs.Valid.{everyFrom, every, cellRight, transportRight, valid}
 use Rattle.board.proofs.Facts.{resource-number, cell-past, cell-wrong, cell-twice, cell-right, valid-long, valid-start, valid-stop, valid-next, valid-end}
 use Rattle.board.proofs.Seeing.{Seen, seen-none}
-use Rattle.board.proofs.Setting.{seen-next, seen-past, seen-at, transport-same, refuted, read-all}
+use Rattle.board.proofs.Setting.{seen-next, seen-past, seen-at, transport-same, read-all}
+use Rattle.board_rules.proofs.Lengths.{Read, few-bookings, read-next, refuted}
 use Rattle.board_rules.proofs.places_of.Statement.{statement}
 use Rattle.board_rules.proofs.places_of.Tie as tie
 
 abbrev Inv-loop : tie.InvT-loop
-Inv-loop b len wrong places₀ i₀ places i =
+Inv-loop b len wrong places₀ lens₀ i₀ places lens i =
     (len ≡ b .len) × (len ≤ 16) × (i ≤ 16) × Seen b (min i (b .len)) places × (valid b ≡ everyFrom (cellRight b) i (16 - i) && every (transportRight b) 256)
+    × (length lens ≡ 16) × Read b i lens
 
 abbrev μ-loop : tie.MeasureT-loop
-μ-loop b len wrong places₀ i₀ places i = 16 - i
+μ-loop b len wrong places₀ lens₀ i₀ places lens i = 16 - i
 
 returns : tie.Need-returns Inv-loop μ-loop
-returns c = refuted _ (replicate 16 16) (valid-long _ (c .if1 .taken))
+returns c = refuted _ (replicate 16 16) (replicate 16 0) (valid-long _ (c .if1 .taken))
 
 loop-holds : tie.Need-loop-holds Inv-loop μ-loop
 loop-holds c =
     let b = c .before .args .t1 in
     let z : min 0 (b .len) ≡ 0 = omega arith in
-    (refl, omega arith, omega arith, rw z (seen-none b), valid-start b (c .if1 .left))
+    (refl, omega arith, omega arith, rw z (seen-none b), valid-start b (c .if1 .left), refl, λ k l. absurd (omega arith))
 
 mul-r : tie.Need-mul-r Inv-loop μ-loop
 mul-r c = search needs
@@ -43,7 +46,7 @@ resource-right-requires c κs = search needs
 returns-2 : tie.Need-returns-2 Inv-loop μ-loop
 returns-2 c =
     let e = sym (c .before .resource-right .ensures) ∙ not-true _ (c .if3 .taken) in
-    refuted _ (replicate 16 16) (valid-stop _ _ (c .before .before .before .before .loop-test .taken) (c .before .before .before .before .before .loop .inv .4) (cell-wrong _ _ (omega arith) e))
+    refuted _ (replicate 16 16) (replicate 16 0) (valid-stop _ _ (c .before .before .before .before .loop-test .taken) (c .before .before .before .before .before .loop .inv .4) (cell-wrong _ _ (omega arith) e))
 
 cast-number : tie.Need-cast-number Inv-loop μ-loop
 cast-number c =
@@ -62,7 +65,7 @@ returns-3 : tie.Need-returns-3 Inv-loop μ-loop
 returns-3 c =
     let e = sym (c .before .before .before .resource-right .ensures) ∙ not-false _ (c .before .before .if3 .left) in
     let d = seen-at (c .before .before .before .before .before .before .before .before .before .args .t1) (c .before .before .before .before .before .before .before .loop .i) (numberAt (c .before .before .before .before .before .before .before .before .before .args .t1) (c .before .before .before .before .before .before .before .loop .i)) (c .before .before .before .before .before .before .before .loop .places) (c .before .before .before .before .before .before .before .loop .inv .3) (omega arith) (omega arith) (omega (arith, resource-number _ e)) in
-    refuted _ (replicate 16 16) (valid-stop _ _ (c .before .before .before .before .before .before .loop-test .taken) (c .before .before .before .before .before .before .before .loop .inv .4) (cell-twice _ _ (omega arith) e (sym d ∙ lt-ltb _ _ (c .if4 .taken))))
+    refuted _ (replicate 16 16) (replicate 16 0) (valid-stop _ _ (c .before .before .before .before .before .before .loop-test .taken) (c .before .before .before .before .before .before .before .loop .inv .4) (cell-twice _ _ (omega arith) e (sym d ∙ lt-ltb _ _ (c .if4 .taken))))
 
 mul-places : tie.Need-mul-places Inv-loop μ-loop
 mul-places c = search needs
@@ -78,7 +81,13 @@ resource-blank-requires c κs = search needs
 returns-4 : tie.Need-returns-4 Inv-loop μ-loop
 returns-4 c =
     let e = sym (c .before .resource-blank .ensures) ∙ not-true _ (c .if5 .taken) in
-    refuted _ (replicate 16 16) (valid-stop _ _ (c .before .before .before .before .loop-test .taken) (c .before .before .before .before .before .loop .inv .4) (cell-past _ _ (omega arith) ∙ e))
+    refuted _ (replicate 16 16) (replicate 16 0) (valid-stop _ _ (c .before .before .before .before .loop-test .taken) (c .before .before .before .before .before .loop .inv .4) (cell-past _ _ (omega arith) ∙ e))
+
+mul-lens : tie.Need-mul-lens Inv-loop μ-loop
+mul-lens c = search needs
+
+array-write-lens : tie.Need-array-write-lens Inv-loop μ-loop
+array-write-lens c = search needs
 
 add-i : tie.Need-add-i Inv-loop μ-loop
 add-i c = search needs
@@ -88,19 +97,19 @@ loop-less c = search needs
 
 loop-again : tie.Need-loop-again Inv-loop μ-loop
 loop-again c =
-    let b = c .before .before .before .before .before .args .t1 in
-    let i = c .before .before .before .loop .i in
-    let s = c .before .before .before .loop .inv .3 in
-    let j : Seen b (min (i + 1) (b .len)) (c .if2 .places) × (cellRight b i ≡ true) =
+    let b = c .before .before .before .before .before .before .args .t1 in
+    let i = c .before .before .before .before .loop .i in
+    let s = c .before .before .before .before .loop .inv .3 in
+    let j : Seen b (min (i + 1) (b .len)) (c .before .if2 .places) × (cellRight b i ≡ true) =
     ⊎-elim
     (λ w.
     let e = sym (w .1 .ensures) ∙ not-false _ (w .2 .left) in
-    let d = seen-at b i (numberAt b i) (c .before .before .before .loop .places) s (omega arith) (omega arith) (omega (arith, resource-number _ e)) in
+    let d = seen-at b i (numberAt b i) (c .before .before .before .before .loop .places) s (omega arith) (omega arith) (omega (arith, resource-number _ e)) in
     let f = sym d ∙ le-ltb _ _ (w .4 .left) in
-    (rw (w .5) (seen-next b i (c .before .before .before .loop .places) s (omega arith) (omega (arith, resource-number _ e)) f), cell-right b i (omega arith) e f))
-    (λ w. (rw (w .3) (seen-past b i (c .before .before .before .loop .places) s (omega arith)), cell-past b i (omega arith) ∙ sym (w .1 .ensures) ∙ not-false _ (w .2 .left)))
-    (c .if2 .came) in
-    (refl, omega arith, omega arith, j .0, valid-next b i (c .before .before .loop-test .taken) (c .before .before .before .loop .inv .4) (j .1))
+    (rw (w .5) (seen-next b i (c .before .before .before .before .loop .places) s (omega arith) (omega (arith, resource-number _ e)) f), cell-right b i (omega arith) e f))
+    (λ w. (rw (w .3) (seen-past b i (c .before .before .before .before .loop .places) s (omega arith)), cell-past b i (omega arith) ∙ sym (w .1 .ensures) ∙ not-false _ (w .2 .left)))
+    (c .before .if2 .came) in
+    (refl, omega arith, omega arith, j .0, valid-next b i (c .before .before .before .loop-test .taken) (c .before .before .before .before .loop .inv .4) (j .1), length-set (c .before .before .before .before .loop .lens) i _ ∙ c .before .before .before .before .loop .inv .5, read-next b i (c .before .before .before .before .loop .lens) (omega (arith, c .before .before .before .before .loop .inv .5)) (c .before .before .before .before .loop .inv .6))
 
 transport-right-requires : tie.Need-transport-right-requires Inv-loop μ-loop
 transport-right-requires c κs = search needs
@@ -109,9 +118,10 @@ returns-5 : tie.Need-returns-5 Inv-loop μ-loop
 returns-5 c =
     let b = c .before .before .before .before .before .before .before .args .t1 in
     let s = read-all b (c .before .before .before .before .before .loop .i) (c .before .before .before .before .before .loop .places) (c .before .before .before .before .before .loop .inv .3) (omega arith) in
-    (c .transport-right .ensures ∙ transport-same b (c .before .before .before .before .before .loop .places) s (omega arith) ∙ sym (valid-end b (c .before .before .before .before .before .loop .i) (omega arith) (c .before .before .before .before .before .loop .inv .4)), λ n l h. s .place n l)
+    let r = c .before .before .before .before .before .loop .inv .6 in
+    (c .transport-right .ensures ∙ transport-same b (c .before .before .before .before .before .loop .places) s (omega arith) ∙ sym (valid-end b (c .before .before .before .before .before .loop .i) (omega arith) (c .before .before .before .before .before .loop .inv .4)), (λ n l h. s .place n l), (λ k l h. r k (omega arith)), λ k l h. rw (r k (omega arith)) (few-bookings b h k l))
 
 pub places-of-spec : {M : Type 1} → statement M
 places-of-spec =
     tie.close
-    (tie.spec Inv-loop μ-loop returns loop-holds mul-r element-copy-out-r resource-right-requires returns-2 cast-number mul-if4 array-read-if4 returns-3 mul-places array-write-places resource-blank-requires returns-4 add-i loop-less loop-again transport-right-requires returns-5)
+    (tie.spec Inv-loop μ-loop returns loop-holds mul-r element-copy-out-r resource-right-requires returns-2 cast-number mul-if4 array-read-if4 returns-3 mul-places array-write-places resource-blank-requires returns-4 mul-lens array-write-lens add-i loop-less loop-again transport-right-requires returns-5)

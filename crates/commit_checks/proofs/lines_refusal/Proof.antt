@@ -15,60 +15,54 @@ numbers-right-requires : tie.Need-numbers-right-requires
 numbers-right-requires c κs = search needs
 
 returns : tie.Need-returns
-returns c =
+returns c b v known long =
     let a = c .before .before .args in
-    let p = c .before .before .pre in
     let s = a .slate .now in
     let ls = linesOf (a .count) s in
-    refused-off (a .b) ls (a .start) (a .end) (a .category) (check-failed (c .before .numbers-right .result) _ _ (c .before .numbers-right .ensures) (numbers-lines (a .b) (p .0) (a .places) (p .1) (a .count) s) (c .if1 .taken))
+    refused-off b ls (a .start) (a .end) (a .category) (check-failed (c .before .numbers-right .result) _ _ (c .before .numbers-right .ensures) (numbers-lines b v (a .places) known (a .count) s) (c .if1 .taken))
 
 returns-2 : tie.Need-returns-2
-returns-2 c =
+returns-2 c b v known long =
     let a = c .before .before .before .args in
-    let p = c .before .before .before .pre in
     let s = a .slate .now in
     let ls = linesOf (a .count) s in
-    let on = check-passed (c .before .before .numbers-right .result) _ _ (c .before .before .numbers-right .ensures) (numbers-lines (a .b) (p .0) (a .places) (p .1) (a .count) s) (c .before .if1 .left) in
-    refused-category (a .b) ls (a .start) (a .end) (a .category) on (c .if2 .taken)
+    let on = check-passed (c .before .before .numbers-right .result) _ _ (c .before .before .numbers-right .ensures) (numbers-lines b v (a .places) known (a .count) s) (c .before .if1 .left) in
+    refused-category b ls (a .start) (a .end) (a .category) on (c .if2 .taken)
 
 returns-3 : tie.Need-returns-3
-returns-3 c =
+returns-3 c b v known long =
     let a = c .before .before .before .before .args in
-    let p = c .before .before .before .before .pre in
     let s = a .slate .now in
     let ls = linesOf (a .count) s in
-    let on = check-passed (c .before .before .before .numbers-right .result) _ _ (c .before .before .before .numbers-right .ensures) (numbers-lines (a .b) (p .0) (a .places) (p .1) (a .count) s) (c .before .before .if1 .left) in
-    refused-start (a .b) ls (a .start) (a .end) (a .category) on (c .before .if2 .left) (c .if3 .taken)
+    let on = check-passed (c .before .before .before .numbers-right .result) _ _ (c .before .before .before .numbers-right .ensures) (numbers-lines b v (a .places) known (a .count) s) (c .before .before .if1 .left) in
+    refused-start b ls (a .start) (a .end) (a .category) on (c .before .if2 .left) (c .if3 .taken)
 
 returns-4 : tie.Need-returns-4
-returns-4 c =
+returns-4 c b v known long =
     let a = c .before .before .before .before .before .args in
-    let p = c .before .before .before .before .before .pre in
     let s = a .slate .now in
     let ls = linesOf (a .count) s in
-    let on = check-passed (c .before .before .before .before .numbers-right .result) _ _ (c .before .before .before .before .numbers-right .ensures) (numbers-lines (a .b) (p .0) (a .places) (p .1) (a .count) s) (c .before .before .before .if1 .left) in
-    refused-end (a .b) ls (a .start) (a .end) (a .category) on (c .before .before .if2 .left) (c .before .if3 .left) (c .if4 .taken)
+    let on = check-passed (c .before .before .before .before .numbers-right .result) _ _ (c .before .before .before .before .numbers-right .ensures) (numbers-lines b v (a .places) known (a .count) s) (c .before .before .before .if1 .left) in
+    refused-end b ls (a .start) (a .end) (a .category) on (c .before .before .if2 .left) (c .before .if3 .left) (c .if4 .taken)
 
 returns-5 : tie.Need-returns-5
-returns-5 c =
+returns-5 c b v known long =
     let a = c .before .before .before .before .before .before .args in
-    let p = c .before .before .before .before .before .before .pre in
     let s = a .slate .now in
     let ls = linesOf (a .count) s in
-    let on = check-passed (c .before .before .before .before .before .numbers-right .result) _ _ (c .before .before .before .before .before .numbers-right .ensures) (numbers-lines (a .b) (p .0) (a .places) (p .1) (a .count) s) (c .before .before .before .before .if1 .left) in
-    refused-order (a .b) ls (a .start) (a .end) (a .category) on (c .before .before .before .if2 .left) (c .before .before .if3 .left) (c .before .if4 .left) (c .if5 .taken)
+    let on = check-passed (c .before .before .before .before .before .numbers-right .result) _ _ (c .before .before .before .before .before .numbers-right .ensures) (numbers-lines b v (a .places) known (a .count) s) (c .before .before .before .before .if1 .left) in
+    refused-order b ls (a .start) (a .end) (a .category) on (c .before .before .before .if2 .left) (c .before .before .if3 .left) (c .before .if4 .left) (c .if5 .taken)
 
 units-right-requires : tie.Need-units-right-requires
 units-right-requires c κs = search needs
 
 returns-6 : tie.Need-returns-6
-returns-6 c =
+returns-6 c b v known long =
     let a = c .before .before .before .before .before .before .before .before .args in
-    let p = c .before .before .before .before .before .before .before .before .pre in
     let s = a .slate .now in
     let ls = linesOf (a .count) s in
-    let on = check-passed (c .before .before .before .before .before .before .before .numbers-right .result) _ _ (c .before .before .before .before .before .before .before .numbers-right .ensures) (numbers-lines (a .b) (p .0) (a .places) (p .1) (a .count) s) (c .before .before .before .before .before .before .if1 .left) in
-    refused-units (a .b) ls (a .start) (a .end) (a .category) on (c .before .before .before .before .before .if2 .left) (c .before .before .before .before .if3 .left) (c .before .before .before .if4 .left) (c .before .before .if5 .left) (check-failed (c .before .units-right .result) _ _ (c .before .units-right .ensures) (units-lines (a .count) s) (c .if6 .taken))
+    let on = check-passed (c .before .before .before .before .before .before .before .numbers-right .result) _ _ (c .before .before .before .before .before .before .before .numbers-right .ensures) (numbers-lines b v (a .places) known (a .count) s) (c .before .before .before .before .before .before .if1 .left) in
+    refused-units b ls (a .start) (a .end) (a .category) on (c .before .before .before .before .before .if2 .left) (c .before .before .before .before .if3 .left) (c .before .before .before .if4 .left) (c .before .before .if5 .left) (check-failed (c .before .units-right .result) _ _ (c .before .units-right .ensures) (units-lines (a .count) s) (c .if6 .taken))
 
 tally-of-requires : tie.Need-tally-of-requires
 tally-of-requires c κs =
@@ -76,40 +70,35 @@ tally-of-requires c κs =
     let p = c .before .before .before .before .before .before .before .before .pre in
     let s = a .slate .now in
     let numbers = sym (c .before .before .before .before .before .before .before .numbers-right .ensures) ∙ not-false _ (c .before .before .before .before .before .before .if1 .left) in
-    (p .2, λ k m. number-is (a .places) (getD s k []) (every-at (numbered (a .places)) [] (a .count) s (p .2) numbers k m) .0)
-
-lens-of-requires : tie.Need-lens-of-requires
-lens-of-requires c κs = search needs
+    (p .0, λ k m. number-is (a .places) (getD s k []) (every-at (numbered (a .places)) [] (a .count) s (p .0) numbers k m) .0)
 
 room-right-requires : tie.Need-room-right-requires
 room-right-requires c κs =
-    let p = c .before .before .before .before .before .before .before .before .before .before .pre in
-    let numbers = sym (c .before .before .before .before .before .before .before .before .before .numbers-right .ensures) ∙ not-false _ (c .before .before .before .before .before .before .before .before .if1 .left) in
-    ((p .2, numbers), c .lens-of .ensures .1)
+    let p = c .before .before .before .before .before .before .before .before .before .pre in
+    let numbers = sym (c .before .before .before .before .before .before .before .before .numbers-right .ensures) ∙ not-false _ (c .before .before .before .before .before .before .before .if1 .left) in
+    ((p .0, numbers), p .1)
 
 returns-7 : tie.Need-returns-7
-returns-7 c =
-    let a = c .before .before .before .before .before .before .before .before .before .before .before .before .args in
-    let p = c .before .before .before .before .before .before .before .before .before .before .before .before .pre in
+returns-7 c b v known long =
+    let a = c .before .before .before .before .before .before .before .before .before .before .before .args in
     let s = a .slate .now in
     let ls = linesOf (a .count) s in
-    let on = check-passed (c .before .before .before .before .before .before .before .before .before .before .before .numbers-right .result) _ _ (c .before .before .before .before .before .before .before .before .before .before .before .numbers-right .ensures) (numbers-lines (a .b) (p .0) (a .places) (p .1) (a .count) s) (c .before .before .before .before .before .before .before .before .before .before .if1 .left) in
-    let u = check-passed (c .before .before .before .before .before .units-right .result) _ _ (c .before .before .before .before .before .units-right .ensures) (units-lines (a .count) s) (c .before .before .before .before .if6 .left) in
-    let numbers = sym (c .before .before .before .before .before .before .before .before .before .before .before .numbers-right .ensures) ∙ not-false _ (c .before .before .before .before .before .before .before .before .before .before .if1 .left) in
-    let room = room-lines (a .b) (p .0) (a .places) (p .1) (c .before .before .lens-of .result) (c .before .before .before .tally-of .result) (a .count) s (c .before .before .lens-of .ensures .0) (c .before .before .before .tally-of .ensures) numbers in
-    refused-room (a .b) ls (a .start) (a .end) (a .category) on (c .before .before .before .before .before .before .before .before .before .if2 .left) (c .before .before .before .before .before .before .before .before .if3 .left) (c .before .before .before .before .before .before .before .if4 .left) (c .before .before .before .before .before .before .if5 .left) u (check-failed (c .before .room-right .result) _ _ (c .before .room-right .ensures) room (c .if7 .taken))
+    let on = check-passed (c .before .before .before .before .before .before .before .before .before .before .numbers-right .result) _ _ (c .before .before .before .before .before .before .before .before .before .before .numbers-right .ensures) (numbers-lines b v (a .places) known (a .count) s) (c .before .before .before .before .before .before .before .before .before .if1 .left) in
+    let u = check-passed (c .before .before .before .before .units-right .result) _ _ (c .before .before .before .before .units-right .ensures) (units-lines (a .count) s) (c .before .before .before .if6 .left) in
+    let numbers = sym (c .before .before .before .before .before .before .before .before .before .before .numbers-right .ensures) ∙ not-false _ (c .before .before .before .before .before .before .before .before .before .if1 .left) in
+    let room = room-lines b v (a .places) known (a .lens) (c .before .before .tally-of .result) (a .count) s long (c .before .before .tally-of .ensures) numbers in
+    refused-room b ls (a .start) (a .end) (a .category) on (c .before .before .before .before .before .before .before .before .if2 .left) (c .before .before .before .before .before .before .before .if3 .left) (c .before .before .before .before .before .before .if4 .left) (c .before .before .before .before .before .if5 .left) u (check-failed (c .before .room-right .result) _ _ (c .before .room-right .ensures) room (c .if7 .taken))
 
 returns-8 : tie.Need-returns-8
-returns-8 c =
-    let a = c .before .before .before .before .before .before .before .before .before .before .before .before .args in
-    let p = c .before .before .before .before .before .before .before .before .before .before .before .before .pre in
+returns-8 c b v known long =
+    let a = c .before .before .before .before .before .before .before .before .before .before .before .args in
     let s = a .slate .now in
     let ls = linesOf (a .count) s in
-    let on = check-passed (c .before .before .before .before .before .before .before .before .before .before .before .numbers-right .result) _ _ (c .before .before .before .before .before .before .before .before .before .before .before .numbers-right .ensures) (numbers-lines (a .b) (p .0) (a .places) (p .1) (a .count) s) (c .before .before .before .before .before .before .before .before .before .before .if1 .left) in
-    let u = check-passed (c .before .before .before .before .before .units-right .result) _ _ (c .before .before .before .before .before .units-right .ensures) (units-lines (a .count) s) (c .before .before .before .before .if6 .left) in
-    let numbers = sym (c .before .before .before .before .before .before .before .before .before .before .before .numbers-right .ensures) ∙ not-false _ (c .before .before .before .before .before .before .before .before .before .before .if1 .left) in
-    let room = room-lines (a .b) (p .0) (a .places) (p .1) (c .before .before .lens-of .result) (c .before .before .before .tally-of .result) (a .count) s (c .before .before .lens-of .ensures .0) (c .before .before .before .tally-of .ensures) numbers in
-    refused-none (a .b) ls (a .start) (a .end) (a .category) on (c .before .before .before .before .before .before .before .before .before .if2 .left) (c .before .before .before .before .before .before .before .before .if3 .left) (c .before .before .before .before .before .before .before .if4 .left) (c .before .before .before .before .before .before .if5 .left) u (check-passed (c .before .room-right .result) _ _ (c .before .room-right .ensures) room (c .if7 .left))
+    let on = check-passed (c .before .before .before .before .before .before .before .before .before .before .numbers-right .result) _ _ (c .before .before .before .before .before .before .before .before .before .before .numbers-right .ensures) (numbers-lines b v (a .places) known (a .count) s) (c .before .before .before .before .before .before .before .before .before .if1 .left) in
+    let u = check-passed (c .before .before .before .before .units-right .result) _ _ (c .before .before .before .before .units-right .ensures) (units-lines (a .count) s) (c .before .before .before .if6 .left) in
+    let numbers = sym (c .before .before .before .before .before .before .before .before .before .before .numbers-right .ensures) ∙ not-false _ (c .before .before .before .before .before .before .before .before .before .if1 .left) in
+    let room = room-lines b v (a .places) known (a .lens) (c .before .before .tally-of .result) (a .count) s long (c .before .before .tally-of .ensures) numbers in
+    refused-none b ls (a .start) (a .end) (a .category) on (c .before .before .before .before .before .before .before .before .if2 .left) (c .before .before .before .before .before .before .before .if3 .left) (c .before .before .before .before .before .before .if4 .left) (c .before .before .before .before .before .if5 .left) u (check-passed (c .before .room-right .result) _ _ (c .before .room-right .ensures) room (c .if7 .left))
 
 pub lines-refusal-spec : {M : Type 1} → statement M
 lines-refusal-spec =
@@ -124,7 +113,6 @@ lines-refusal-spec =
     units-right-requires
     returns-6
     tally-of-requires
-    lens-of-requires
     room-right-requires
     returns-7
     returns-8)

@@ -32,30 +32,30 @@ returns-3 c =
 
 lines-refusal-requires : tie.Need-lines-refusal-requires
 lines-refusal-requires c κs =
-    let v = sym (c .before .before .before .before .before .places-of .ensures .0) ∙ not-false _ (c .before .before .before .if1 .left) in
-    (v, (λ n m. c .before .before .before .before .before .places-of .ensures .1 n m v), c .before .if3 .left)
+    let v = sym (c .before .before .before .before .before .before .places-of .ensures .0) ∙ not-false _ (c .before .before .before .before .if1 .left) in
+    (c .before .before .if3 .left, λ k m. c .before .before .before .before .before .before .places-of .ensures .3 k m v)
 
 returns-4 : tie.Need-returns-4
 returns-4 c =
-    let a = c .before .before .before .before .before .before .before .before .args in
-    let s = a .slate .now in
-    let v = sym (c .before .before .before .before .before .before .before .places-of .ensures .0) ∙ not-false _ (c .before .before .before .before .before .if1 .left) in
-    reply-refused (a .b) s (a .count) (a .start) (a .end) (a .category) v (ne-eqb (a .count) 0 (c .before .before .before .before .if2 .left)) (c .before .before .before .if3 .left) (c .before .lines-refusal .result) (c .before .lines-refusal .ensures) (c .if4 .taken)
-
-book-all-requires : tie.Need-book-all-requires
-book-all-requires c κs =
-    let a = c .before .before .before .before .before .before .before .before .args in
-    let s = a .slate .now in
-    let v = sym (c .before .before .before .before .before .before .before .places-of .ensures .0) ∙ not-false _ (c .before .before .before .before .before .if1 .left) in
-    let w = all-fine (a .b) (linesOf (a .count) s) (a .start) (a .end) (a .category) v (c .before .lines-refusal .result) (c .before .lines-refusal .ensures) (c .if4 .left) in
-    ((v, (λ n m. c .before .before .before .before .before .before .before .places-of .ensures .1 n m v), c .before .before .before .if3 .left, w .0), (w .1, w .2))
-
-returns-5 : tie.Need-returns-5
-returns-5 c =
     let a = c .before .before .before .before .before .before .before .before .before .args in
     let s = a .slate .now in
     let v = sym (c .before .before .before .before .before .before .before .before .places-of .ensures .0) ∙ not-false _ (c .before .before .before .before .before .before .if1 .left) in
-    reply-taken (a .b) s (a .count) (a .start) (a .end) (a .category) v (ne-eqb (a .count) 0 (c .before .before .before .before .before .if2 .left)) (c .before .before .before .before .if3 .left) (c .book-all .result) (c .before .before .lines-refusal .result) (c .before .before .lines-refusal .ensures) (c .before .if4 .left) (c .book-all .ensures)
+    reply-refused (a .b) s (a .count) (a .start) (a .end) (a .category) v (ne-eqb (a .count) 0 (c .before .before .before .before .before .if2 .left)) (c .before .before .before .before .if3 .left) (c .before .lines-refusal .result) (c .before .lines-refusal .ensures (a .b) v (λ n m. c .before .before .before .before .before .before .before .before .places-of .ensures .1 n m v) (λ i m. c .before .before .before .before .before .before .before .before .places-of .ensures .2 i m v)) (c .if4 .taken)
+
+book-all-requires : tie.Need-book-all-requires
+book-all-requires c κs =
+    let a = c .before .before .before .before .before .before .before .before .before .args in
+    let s = a .slate .now in
+    let v = sym (c .before .before .before .before .before .before .before .before .places-of .ensures .0) ∙ not-false _ (c .before .before .before .before .before .before .if1 .left) in
+    let w = all-fine (a .b) (linesOf (a .count) s) (a .start) (a .end) (a .category) v (c .before .lines-refusal .result) (c .before .lines-refusal .ensures (a .b) v (λ n m. c .before .before .before .before .before .before .before .before .places-of .ensures .1 n m v) (λ i m. c .before .before .before .before .before .before .before .before .places-of .ensures .2 i m v)) (c .if4 .left) in
+    ((v, (λ n m. c .before .before .before .before .before .before .before .before .places-of .ensures .1 n m v), c .before .before .before .before .if3 .left, w .0), (w .1, w .2))
+
+returns-5 : tie.Need-returns-5
+returns-5 c =
+    let a = c .before .before .before .before .before .before .before .before .before .before .args in
+    let s = a .slate .now in
+    let v = sym (c .before .before .before .before .before .before .before .before .before .places-of .ensures .0) ∙ not-false _ (c .before .before .before .before .before .before .before .if1 .left) in
+    reply-taken (a .b) s (a .count) (a .start) (a .end) (a .category) v (ne-eqb (a .count) 0 (c .before .before .before .before .before .before .if2 .left)) (c .before .before .before .before .before .if3 .left) (c .book-all .result) (c .before .before .lines-refusal .result) (c .before .before .lines-refusal .ensures (a .b) v (λ n m. c .before .before .before .before .before .before .before .before .before .places-of .ensures .1 n m v) (λ i m. c .before .before .before .before .before .before .before .before .before .places-of .ensures .2 i m v)) (c .before .if4 .left) (c .book-all .ensures)
 
 pub commit-spec : {M : Type 1} → statement M
 commit-spec =
