@@ -1,7 +1,7 @@
 -- The places of a resource and its companions, one companion more; their diaries are the resource with its companions.
 use mathlib.Core.Path.{_≡_, refl, sym, ap, _∙_}
 use mathlib.Core.Bool.{Bool, true, false, cond}
-use mathlib.Core.List.{List, [], _∷_, map}
+use mathlib.Core.List.{List, [], _∷_, map, map-append}
 use mathlib.Core.Logic.{⊎-elim}
 use Prim.Native.Nat.{ℕ, zero, suc, _+_, _≤_, _<_}
 use native.Mathlib.Omega.{arith}
@@ -18,7 +18,7 @@ use Rattle.board.specs.Valid as board
 use Rattle.board.proofs.Meaning.{resource-of, lookup-means}
 use Rattle.scheduler.specs.Alone.{oneUnit, diaryOf, resourceIn, companionsOf, withCompanions, earliestOf}
 use Rattle.scheduler.specs.Shares.{sharesTo, Wanted}
-use Rattle.scheduler.specs.Arrays.{take-next, map-append, every-append, every-off}
+use Rattle.scheduler.specs.Arrays.{take-next, every-append, every-off}
 use Rattle.alone.specs.declared.Members.{Members}
 use Rattle.alone.specs.Plans.{Known, Seated}
 use Rattle.scheduler.specs.Alone.{startWith}

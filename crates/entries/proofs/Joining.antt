@@ -1,7 +1,7 @@
 -- Companions that join once each: at most sixteen, for they are resource numbers.
 use mathlib.Core.Path.{_≡_, refl, sym, ap, _∙_}
-use mathlib.Core.Bool.{Bool, true, false, _||_, cond}
-use mathlib.Core.List.{List, [], _∷_, _++_, map, append-assoc, append-nil}
+use mathlib.Core.Bool.{Bool, true, false, _||_, cond, or-false}
+use mathlib.Core.List.{List, [], _∷_, _++_, map, append-assoc, append-nil, map-append, map-map, map-id}
 use mathlib.Core.Logic.{⊎-elim}
 use Prim.Native.Nat.{ℕ, zero, suc, _+_, _-_, _≤_, _<_, max}
 use native.Mathlib.Omega.{arith}
@@ -17,7 +17,7 @@ use Rattle.scheduler.specs.Events.{among-append}
 use Rattle.scheduler.specs.Lists.{Each}
 use Rattle.scheduler.specs.Tests.{or-right}
 use Rattle.entries.specs.Parts.{noEntry, numberIn, Small}
-use Rattle.scheduler.specs.Arrays.{map-append, map-map, take-next, take-split, each-at}
+use Rattle.scheduler.specs.Arrays.{take-next, take-split, each-at}
 
 pub join-last : (held joined cs : List ℕ) (c : ℕ) → joinEach held joined (cs ++ (c ∷ [])) ≡ cond (among c held || among c (joinEach held joined cs)) (joinEach held joined cs) (joinEach held joined cs ++ (c ∷ []))
 unfolding joinEach
@@ -54,14 +54,10 @@ tally-more xs c e (suc m) =
     let y : among m xs ≡ false = rw (← z) e in
     rw (tally-more xs c e m, x, y, le-ltb c m (omega arith), lt-ltb c (suc m) (omega arith)) (omega arith))
     (λ (z : m ≡ c → ⊥).
-    let x : among m (xs ++ (c ∷ [])) ≡ among m xs = among-append m xs (c ∷ []) ∙ rw (ne-eqb c m (λ w. z (sym w))) (or-end (among m xs)) in
+    let x : among m (xs ++ (c ∷ [])) ≡ among m xs = among-append m xs (c ∷ []) ∙ rw (ne-eqb c m (λ w. z (sym w))) (or-false (among m xs)) in
     let y : ltb c (suc m) ≡ ltb c m = same-side c m z in
     rw (tally-more xs c e m, x, y) (omega arith))
     (same-or-not c m)
-  where
-    or-end : (p : Bool) → p || (false || false) ≡ p
-    or-end true = refl
-    or-end false = refl
 
 -- k cells of xs are those of es and the joined ones, each once
 pub record Joined (es : List Entry) (n : ℕ) (js : List ℕ) (xs : List Entry) (k : ℕ) : Type 0 where
@@ -82,12 +78,8 @@ module _ (es : List Entry) (n : ℕ) (js : List ℕ) (xs : List Entry) (k : ℕ)
   pub joined-numbers : (c : ℕ) → among c (map numberIn (take k xs)) ≡ among c (map numberIn es) || among c js
   joined-numbers c =
       ap (λ (ys : List Entry). among c (map numberIn ys)) (j .entries)
-      ∙ ap (among c) (map-append numberIn es (map companionEntry js) ∙ ap (λ (ys : List ℕ). map numberIn es ++ ys) (map-map companionEntry numberIn js ∙ map-same js))
+      ∙ ap (among c) (map-append numberIn es (map companionEntry js) ∙ ap (λ (ys : List ℕ). map numberIn es ++ ys) (map-map numberIn companionEntry js ∙ map-id js))
       ∙ among-append c (map numberIn es) js
-    where
-      map-same : (ys : List ℕ) → map (λ y. numberIn (companionEntry y)) ys ≡ ys
-      map-same [] = refl
-      map-same (y ∷ ys) = ap {B = List ℕ} (λ r. y ∷ r) (map-same ys)
 
   module _ (c : ℕ) (l : c < 16) (new : among c js ≡ false) where
     more : length (js ++ (c ∷ [])) ≡ tally (js ++ (c ∷ [])) 16
@@ -122,10 +114,6 @@ module _ (es : List Entry) (number i : ℕ) (l : i < length es) where
       ∙ ap (among number) (map-append numberIn (take i es) (getD es i noEntry ∷ []))
       ∙ among-append number (map numberIn (take i es)) (getD es i noEntry .number ∷ [])
       ∙ ap (λ (p : Bool). among number (map numberIn (take i es)) || p) (or-false (eqb (getD es i noEntry .number) number))
-    where
-      or-false : (p : Bool) → p || false ≡ p
-      or-false true = refl
-      or-false false = refl
 
   pub among-other : among number (map numberIn (take i es)) ≡ false → (getD es i noEntry .number ≡ number → ⊥) → among number (map numberIn (take (i + 1) es)) ≡ false
   among-other e h = among-next ∙ rw (e, ne-eqb (getD es i noEntry .number) number h) refl

@@ -1,7 +1,7 @@
 -- What is taken from the board for those held, one held more; and what it amounts to.
 use mathlib.Core.Path.{_≡_, refl, sym, ap, _∙_}
 use mathlib.Core.Bool.{Bool, true, false, cond}
-use mathlib.Core.List.{List, [], _∷_, _++_, map, append-assoc, append-nil}
+use mathlib.Core.List.{List, [], _∷_, _++_, map, append-assoc, append-nil, map-append, map-map}
 use Prim.Native.Nat.{ℕ, _+_, _^_, _≤_, _<_}
 use native.Mathlib.Omega.{arith}
 use lib.ListN.{length, getD, set, take}
@@ -32,7 +32,7 @@ use Rattle.entries.specs.declared.Parts.{Parts}
 use Rattle.entries.specs.Parts.{noEntry, numberIn, keptSetup, setupAt, Taken, Parted}
 use Rattle.plans.specs.declared.Plan.{Plan}
 use Rattle.plans.specs.Plans.{noPlan, planWith}
-use Rattle.scheduler.specs.Arrays.{map-append, map-map, cells-map, take-next, each-cells}
+use Rattle.scheduler.specs.Arrays.{cells-map, take-next, each-cells}
 
 companions-last : (hs : List Held) (h : Held) → allCompanions (hs ++ (h ∷ [])) ≡ allCompanions hs ++ companionsOf (h .resource)
 unfolding allCompanions
@@ -88,13 +88,13 @@ module _ (b : Board) (hs : List Hold) where
   module _ (n : ℕ) (l : n ≤ length hs) where
     pub numbers-are : (ns : List ℕ) → n ≤ length ns → ((k : ℕ) → k < n → getD ns k 0 ≡ on k .number) → take n ns ≡ numbersOf (heldTo b hs n)
     unfolding heldOf
-    numbers-are ns m h = cells-map (λ x. resourceAt b (x .place) .number) noHold 0 n hs ns l m h ∙ sym (map-map (heldOf b) numberOf (take n hs))
+    numbers-are ns m h = cells-map (λ x. resourceAt b (x .place) .number) noHold 0 n hs ns l m h ∙ sym (map-map numberOf (heldOf b) (take n hs))
 
     pub entries-are : (category own : ℕ) (p : Parts) (es : List Entry) → n ≤ length es → Parted b category hs n p → ((k : ℕ) → k < n → getD es k noEntry ≡ setupAt p hs own k) → take n es ≡ heldEntries category own (heldTo b hs n)
     unfolding heldOf
     entries-are category own p es m d h =
         cells-map (λ x. heldEntry category own (heldOf b x)) noHold noEntry n hs es l m (λ k i. h k i ∙ rw (d .numbers k i, d .setups k i own) refl)
-        ∙ sym (map-map (heldOf b) (heldEntry category own) (take n hs))
+        ∙ sym (map-map (heldEntry category own) (heldOf b) (take n hs))
 
 greatest-most : (m : ℕ) (es : List Entry) → Each (λ e. e .setup ≤ m) es → greatestSetup es ≤ m
 unfolding greatestSetup
@@ -114,7 +114,7 @@ module _ (b : Board) (a : Activity) (hs : List Hold) (n : ℕ) (p : Parts) (d : 
   duration-small = rw e (duration-bounded (a .duration) (a .timings) (take n (p .numbers)) w (omega (arith, length-take-le n (p .numbers) (omega (arith, parts .long)))))
 
   pub setups-small : greatestSetup (take n es) ≤ 2 ^ 36
-  setups-small = greatest-most (2 ^ 36) (take n es) (each-cells (λ x. x .setup ≤ 2 ^ 36) noEntry n es (omega (arith, wide)) each)
+  setups-small = greatest-most (2 ^ 36) (take n es) (each-cells (λ x. x .setup ≤ 2 ^ 36) noEntry n es (λ k l m. each k l))
     where
       each : (k : ℕ) → k < n → getD es k noEntry .setup ≤ 2 ^ 36
       each k l =
@@ -126,7 +126,7 @@ module _ (b : Board) (a : Activity) (hs : List Hold) (n : ℕ) (p : Parts) (d : 
   span-is = rw (entries, together) refl
 
   numbers : map numberIn (take n es) ≡ numbersOf (heldTo b hs n)
-  numbers = ap (map numberIn) entries ∙ map-map (heldEntry (a .category) (durationTogether a (heldTo b hs n) .setup)) numberIn (heldTo b hs n)
+  numbers = ap (map numberIn) entries ∙ map-map numberIn (heldEntry (a .category) (durationTogether a (heldTo b hs n) .setup)) (heldTo b hs n)
 
   pub entries-whole : take n es ++ map companionEntry (joinEach (map numberIn (take n es)) [] (take (p .companions .len) (p .companions .numbers))) ≡ entriesOf a (heldTo b hs n)
   unfolding entriesOf companionEntries

@@ -87,7 +87,7 @@ module _ (b : Board) (v : valid b ≡ true) (a : Activity) (ready t : ℕ) (lawf
     units : (k : ℕ) → k < n → 1 ≤ getD es k noEntry .units
     units k i =
         let z : length (take n es) ≡ n = length-take-le n es (omega (arith, long)) in
-        let w : Each (λ y. 1 ≤ y .units) (take n es) = subst (Each (λ y. 1 ≤ y .units)) (sym f) (entries-some a (heldTo b hs m) (held-usage b (take m hs) (each-cells (λ h. 1 ≤ h .usage) noHold m hs few (places .some)))) in
+        let w : Each (λ y. 1 ≤ y .units) (take n es) = subst (Each (λ y. 1 ≤ y .units)) (sym f) (entries-some a (heldTo b hs m) (held-usage b (take m hs) (each-cells (λ h. 1 ≤ h .usage) noHold m hs (λ k l o. places .some k l)))) in
         rw (getD-take n es k noEntry i) at (each-at (λ y. 1 ≤ y .units) noEntry (take n es) w k (omega (arith, z)))
 
     pub entered : EntriesOn b es n

@@ -1,19 +1,14 @@
 -- Rows written one behind another at the front of a slate.
 use mathlib.Core.Path.{_≡_, sym, ap, _∙_}
-use mathlib.Core.List.{List, [], _∷_, _++_, map, append-assoc}
+use mathlib.Core.List.{List, [], _∷_, _++_, map, append-assoc, map-append}
 use Prim.Native.Nat.{ℕ, suc, _+_, _≤_, _<_}
+use native.Mathlib.Numerals.{add-one}
 use native.Mathlib.Omega.{arith}
 use lib.ListN.{length, getD, set, take, drop, length-map, length-append, length-drop}
-use lib.Seq.{set-at, length-take-le, drop-cons}
+use lib.Seq.{set-at, length-take-le, take-suc, drop-cons}
 use Rattle.scheduler.specs.declared.Entry.{Entry}
 use Rattle.scheduler.specs.Placing.{rowOf}
-use Rattle.scheduler.specs.Arrays.{map-append, take-next}
 use Rattle.entries.specs.Parts.{noEntry}
-
-drop-next : {A : Type 0} (d : A) (xs : List A) (i : ℕ) → i < length xs → drop i xs ≡ getD xs i d ∷ drop (i + 1) xs
-drop-next d xs i l =
-    let z : i + 1 ≡ suc i = omega arith in
-    rw z (drop-cons xs i d l)
 
 module _ (es : List Entry) (slate : List (List ℕ)) where
   abbrev pub written : ℕ → List (List ℕ)
@@ -28,6 +23,6 @@ module _ (es : List Entry) (slate : List (List ℕ)) where
   pub written-next : (i : ℕ) → i < length es → i < length slate → set (written i) i (rowOf (getD es i noEntry)) ≡ written (i + 1)
   written-next i l m =
       let r = rowOf (getD es i noEntry) in
-      ap (λ (xs : List (List ℕ)). set (map rowOf (take i es) ++ xs) i r) (drop-next [] slate i m)
-      ∙ set-at (map rowOf (take i es)) (getD slate i []) (drop (i + 1) slate) r i (rows-long i (omega arith))
-      ∙ sym (ap (λ (xs : List Entry). map rowOf xs ++ drop (i + 1) slate) (take-next es i noEntry l) ∙ ap (λ (xs : List (List ℕ)). xs ++ drop (i + 1) slate) (map-append rowOf (take i es) (getD es i noEntry ∷ [])) ∙ append-assoc (map rowOf (take i es)) (r ∷ []) (drop (i + 1) slate))
+      rw (add-one i) (ap (λ (xs : List (List ℕ)). set (map rowOf (take i es) ++ xs) i r) (drop-cons slate i [] m)
+      ∙ set-at (map rowOf (take i es)) (getD slate i []) (drop (suc i) slate) r i (rows-long i (omega arith))
+      ∙ sym (ap (λ (xs : List Entry). map rowOf xs ++ drop (suc i) slate) (take-suc es i noEntry l) ∙ ap (λ (xs : List (List ℕ)). xs ++ drop (suc i) slate) (map-append rowOf (take i es) (getD es i noEntry ∷ [])) ∙ append-assoc (map rowOf (take i es)) (r ∷ []) (drop (suc i) slate)))

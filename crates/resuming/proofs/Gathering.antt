@@ -1,7 +1,7 @@
 -- One diary more: free on all, calm on all, and the calendars of all.
 use mathlib.Core.Path.{_≡_, refl, sym, ap, _∙_, subst}
 use mathlib.Core.Bool.{Bool, _&&_}
-use mathlib.Core.List.{List, [], _∷_, _++_, map}
+use mathlib.Core.List.{List, [], _∷_, _++_, map, map-append}
 use Prim.Native.Nat.{ℕ, zero, suc, _+_, _≤_, _<_}
 use native.Mathlib.Omega.{arith}
 use lib.ListN.{getD, length, take}
@@ -15,7 +15,6 @@ use Rattle.timeline.proofs.Stepping.{Still}
 use Rattle.board.specs.Resources.{noDiary}
 use Rattle.scheduler.specs.Alone.{Share}
 use Rattle.scheduler.specs.Fitting.{calendarOf, allFree}
-use Rattle.scheduler.specs.Arrays.{map-append}
 use Rattle.scheduler.specs.Shares.{shareAt, sharesTo}
 use Rattle.scheduler.specs.Lists.{each-end, each-on, each-append}
 use Rattle.scheduler.specs.Together.{Calm}

@@ -1,7 +1,7 @@
 -- The candidates, place by place: sorted as they come in board order, and those of the definition.
 use mathlib.Core.Path.{_≡_, refl, sym, ap, _∙_, subst}
 use mathlib.Core.Bool.{Bool, true, false, cond}
-use mathlib.Core.List.{List, [], _∷_, _++_, map, append-assoc}
+use mathlib.Core.List.{List, [], _∷_, _++_, map, append-assoc, append-nil}
 use Prim.Native.Nat.{ℕ, zero, suc, _+_, _-_, _^_, _≤_, _<_}
 use native.Mathlib.Omega.{arith}
 use lib.ListN.{getD, length, take}
@@ -18,7 +18,7 @@ use Rattle.board.specs.Resources.{noResource, resourceAt}
 use Rattle.board.specs.Valid as board
 use Rattle.scheduler.specs.Alone.{durationAlone, startAlone}
 use Rattle.scheduler.specs.Choosing as scheduler
-use Rattle.scheduler.specs.Lists.{Each, each-end, append-nil}
+use Rattle.scheduler.specs.Lists.{Each, each-end}
 use Rattle.scheduler.specs.Ruled.{all-there}
 use Rattle.rounds.specs.declared.rank.Candidate.{Candidate}
 use Rattle.rounds.specs.declared.rank.Ranked.{Ranked}

@@ -21,20 +21,12 @@ filled-next f xs i v d l h e k m =
     (same-or-not i k)
 
 module _ {A B : Type 0} (f : A → B) where
-  pub map-append : (xs ys : List A) → map f (xs ++ ys) ≡ map f xs ++ map f ys
-  map-append [] ys = refl
-  map-append (x ∷ xs) ys = ap {B = List B} (λ r. f x ∷ r) (map-append xs ys)
-
   -- cell by cell the image of another array
   pub cells-map : (d : A) (e : B) (n : ℕ) (xs : List A) (ys : List B) → n ≤ length xs → n ≤ length ys → ((k : ℕ) → k < n → getD ys k e ≡ f (getD xs k d)) → take n ys ≡ map f (take n xs)
   cells-map d e zero xs ys l m h = refl
   cells-map d e (suc n) [] ys l m h = absurd (omega arith)
   cells-map d e (suc n) (x ∷ xs) [] l m h = absurd (omega arith)
   cells-map d e (suc n) (x ∷ xs) (y ∷ ys) l m h = rw (h 0 (omega arith), cells-map d e n xs ys (omega arith) (omega arith) (λ k i. h (suc k) (omega arith))) refl
-
-pub map-map : {A B C : Type 0} (f : A → B) (g : B → C) (xs : List A) → map g (map f xs) ≡ map (λ x. g (f x)) xs
-map-map f g [] = refl
-map-map {C = C} f g (x ∷ xs) = ap {B = List C} (λ r. g (f x) ∷ r) (map-map f g xs)
 
 pub take-next : {A : Type 0} (xs : List A) (i : ℕ) (d : A) → i < length xs → take (i + 1) xs ≡ take i xs ++ (getD xs i d ∷ [])
 take-next xs i d l =
@@ -59,10 +51,11 @@ module _ {A : Type 0} (P : A → Type 0) (d : A) where
   each-at (x ∷ xs) (each-on p e) zero l = p
   each-at (x ∷ xs) (each-on p e) (suc k) l = each-at xs e k (omega arith)
 
-  pub each-cells : (n : ℕ) (xs : List A) → n ≤ length xs → ((k : ℕ) → k < n → P (getD xs k d)) → Each P (take n xs)
-  each-cells zero xs l h = each-end
-  each-cells (suc n) [] l h = absurd (omega arith)
-  each-cells (suc n) (x ∷ xs) l h = each-on (h 0 (omega arith)) (each-cells n xs (omega arith) (λ k i. h (suc k) (omega arith)))
+  -- what holds of every cell below n holds of each of the first n
+  pub each-cells : (n : ℕ) (xs : List A) → ((k : ℕ) → k < n → k < length xs → P (getD xs k d)) → Each P (take n xs)
+  each-cells zero xs h = each-end
+  each-cells (suc n) [] h = each-end
+  each-cells (suc n) (x ∷ xs) h = each-on (h 0 (omega arith) (omega arith)) (each-cells n xs (λ k l m. h (suc k) (omega arith) (omega arith)))
 
 module _ {A : Type 0} (P : A → Bool) where
   pub every-append : (xs ys : List A) → every P (xs ++ ys) ≡ every P xs && every P ys

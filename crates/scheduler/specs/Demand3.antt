@@ -1,11 +1,12 @@
 -- Demand 3: two boards alike but for extra bookings, one order and one ready time.
 use mathlib.Core.Path.{_≡_, refl, sym, ap, _∙_, subst}
 use mathlib.Core.Bool.{Bool, true, false, not, _||_, cond}
-use mathlib.Core.List.{List, [], _∷_, _++_, map}
+use mathlib.Core.List.{List, [], _∷_, map}
 use mathlib.Core.Logic.{_⊎_, ⊎-elim}
 use Prim.Native.Nat.{ℕ, zero, suc, _+_, _≤_, _<_}
 use native.Mathlib.Omega.{arith}
-use lib.ListN.{length, take, drop}
+use lib.ListN.{length, take, drop, length-map}
+use lib.Seq.{take-at}
 use lib.Dec.{ltb}
 use Rattle.calendar.specs.Basics.{not-both, lt-or-ge, unrefused}
 use Rattle.calendar.specs.Search.{Found, nothing, at}
@@ -221,10 +222,6 @@ module _ (b c : Board) (k : Alike b c) (a : Activity) (ready : ℕ) (slate other
       go zero f g = placing-same b c k a (readyOf (a .release) ready) ready (lawful f) t s e es g z
       go (suc n) f g = not-placed (refused (suc n)) refl t s e es g
 
-  rows : (es : List Entry) (l : List (List ℕ)) → take (length es) (map rowOf es ++ l) ≡ map rowOf es
-  rows [] l = refl
-  rows (e ∷ es) l = rw (rows es l) refl
-
   never : (u : ℕ) → choosingInstant (placeReply c a ready (length other)) ≡ at u → (t : ℕ) × (choosingInstant (placeReply b a ready (length slate)) ≡ at t) × (t ≤ u)
   unfolding placeReply refusedOr choosingInstant
   never u h = subst (λ (n : ℕ). (t : ℕ) × (choosingInstant (refusedOr refused n (placing b a (readyOf (a .release) ready))) ≡ at t) × (t ≤ u)) (sym refusals) (go (placeRefusal c a ready (length other)) refl h)
@@ -244,7 +241,7 @@ module _ (b c : Board) (k : Alike b c) (a : Activity) (ready : ℕ) (slate other
 
   written : (t s e : ℕ) (es : List Entry) (r : Reply) (l : List (List ℕ)) → r ≡ placed t s e es → take (length es) (slateAfter r l) ≡ map rowOf es
   unfolding slateAfter
-  written t s e es r l h = ap (λ (x : Reply). take (length es) (slateAfter x l)) h ∙ rows es (drop (length es) l)
+  written t s e es r l h = ap (λ (x : Reply). take (length es) (slateAfter x l)) h ∙ take-at (map rowOf es) (drop (length es) l) (length es) (length-map es rowOf)
 
   pub demand-3 : Demand3 b c a ready slate other
   demand-3 = record {

@@ -1,9 +1,7 @@
--- Small facts on lists.
-use mathlib.Core.Path.{_≡_, refl, ap}
+-- What holds of each element of a list, or of the elements of two lists one by one.
 use mathlib.Core.List.{List, [], _∷_, _++_, map}
-use Prim.Native.Nat.{ℕ, zero, suc, _+_, _≤_}
-use native.Mathlib.Omega.{arith}
-use lib.ListN.{length, take}
+use Prim.Native.Nat.{ℕ, zero, suc}
+use lib.ListN.{take}
 
 -- P holds of each
 pub data Each {A : Type 0} (P : A → Type 0) : List A → Type 0 where
@@ -22,16 +20,6 @@ each-take P (suc k) (x ∷ xs) (each-on p a) = each-on p (each-take P k xs a)
 pub each-map : {A : Type 0} (P Q : A → Type 0) (xs : List A) → ((x : A) → P x → Q x) → Each P xs → Each Q xs
 each-map P Q [] f each-end = each-end
 each-map P Q (x ∷ xs) f (each-on p a) = each-on (f x p) (each-map P Q xs f a)
-
--- the first k of two lists one behind the other
-pub take-front : {A : Type 0} (k : ℕ) (xs ys : List A) → k ≤ length xs → take k (xs ++ ys) ≡ take k xs
-take-front zero xs ys l = refl
-take-front (suc k) [] ys l = absurd (omega arith)
-take-front {A = A} (suc k) (x ∷ xs) ys l = ap {B = List A} (λ r. x ∷ r) (take-front k xs ys (omega arith))
-
-pub append-nil : {A : Type 0} (xs : List A) → xs ++ [] ≡ xs
-append-nil [] = refl
-append-nil {A = A} (x ∷ xs) = ap {B = List A} (λ r. x ∷ r) (append-nil xs)
 
 pub each-left : {A : Type 0} (P : A → Type 0) (xs ys : List A) → Each P (xs ++ ys) → Each P xs
 each-left P [] ys a = each-end

@@ -1,11 +1,12 @@
 -- What choosing and placing amount to, in the plainest terms.
 use mathlib.Core.Path.{_≡_, refl, sym, ap, _∙_, subst}
 use mathlib.Core.Bool.{Bool, true, false, not, _||_, cond}
-use mathlib.Core.List.{List, [], _∷_, _++_, map}
+use mathlib.Core.List.{List, [], _∷_, map}
 use mathlib.Core.Logic.{_⊎_, inl, inr, ⊎-elim}
 use Prim.Native.Nat.{ℕ, _+_, _≤_}
 use native.Mathlib.Omega.{arith}
-use lib.ListN.{length, drop}
+use lib.ListN.{length, drop, length-map}
+use lib.Seq.{drop-at}
 use lib.Dec.{leb, ltb}
 use borrow.Author.Tests.{leb-true, not-false}
 use Rattle.calendar.specs.Basics.{and-split, not-both, unrefused}
@@ -161,11 +162,7 @@ time-only-plain b a open-ever never-shut ready alone =
 -- Placing writes no slate entry beyond those it reports, and none at all without a placement.
 pub slate-rest : (t s e : ℕ) (es : List Entry) (slate : List (List ℕ)) → drop (length es) (slateAfter (placed t s e es) slate) ≡ drop (length es) slate
 unfolding slateAfter
-slate-rest t s e es slate = behind es (drop (length es) slate)
-  where
-    behind : (es : List Entry) (l : List (List ℕ)) → drop (length es) (map rowOf es ++ l) ≡ l
-    behind [] l = refl
-    behind (e ∷ es) l = behind es l
+slate-rest t s e es slate = drop-at (map rowOf es) (drop (length es) slate) (length es) (length-map es rowOf)
 
 pub slate-same : (t n : ℕ) (slate : List (List ℕ)) → (slateAfter (chosenNone t) slate ≡ slate) × (slateAfter none slate ≡ slate) × (slateAfter (refused n) slate ≡ slate)
 unfolding slateAfter

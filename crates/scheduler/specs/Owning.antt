@@ -1,6 +1,6 @@
 -- The order's own calendar as a diary that nothing books, in front of the entries' diaries (the Rust's `own_timeline`).
 use mathlib.Core.Path.{_≡_, refl, sym, ap, _∙_}
-use mathlib.Core.Bool.{Bool, true, false, _&&_}
+use mathlib.Core.Bool.{Bool, true, false, _&&_, and-comm}
 use mathlib.Core.List.{List, [], _∷_, map}
 use Prim.Native.Nat.{ℕ, _+_, _-_}
 use native.Mathlib.Omega.{arith}
@@ -35,12 +35,6 @@ unfoldable pub suitsOn : Bool → List Share → ℕ → ℕ → Bool
 suitsOn true ys span s = freeToEnd ys s (jointEnd (map calendarOf ys) s span)
 suitsOn false ys span s = allStart false span ys s
 
-and-swap : (p q : Bool) → p && q ≡ q && p
-and-swap true true = refl
-and-swap true false = refl
-and-swap false true = refl
-and-swap false false = refl
-
 own-fits : (own : Calendar) (span s : ℕ) → canStart false span (ownShare own) s ≡ fits own s (s + span)
 unfolding canStart fitsAt diary
 own-fits own span s = rw (own-free own s (s + span)) (and-true (fits own s (s + span)))
@@ -52,4 +46,4 @@ suits-on true xs own span s = go (jointEnd (own ∷ map calendarOf xs) s span)
     go : (f : Found) → freeToEnd xs s f ≡ freeToEnd (ownShare own ∷ xs) s f
     go nothing = refl
     go (at e) = sym (ap (λ (p : Bool). p && allFree xs s e) (own-free own s e))
-suits-on false xs own span s = and-swap (allStart false span xs s) (fits own s (s + span)) ∙ ap (λ (p : Bool). p && allStart false span xs s) (sym (own-fits own span s))
+suits-on false xs own span s = and-comm (allStart false span xs s) (fits own s (s + span)) ∙ ap (λ (p : Bool). p && allStart false span xs s) (sym (own-fits own span s))

@@ -1,7 +1,7 @@
 -- The resources of a placement are on the board, so that their diaries keep the rules.
 use mathlib.Core.Path.{_≡_, refl, sym, ap, subst}
 use mathlib.Core.Bool.{Bool, true, false, _||_, cond}
-use mathlib.Core.List.{List, [], _∷_, _++_, map}
+use mathlib.Core.List.{List, [], _∷_, _++_, map, map-append}
 use Prim.Native.Nat.{ℕ}
 use lib.ListN.{take}
 use Rattle.calendar.specs.Basics.{and-split}
@@ -11,19 +11,19 @@ use Rattle.activity.specs.Serving.{serves}
 use Rattle.activity.specs.Check.{every}
 use Rattle.board.specs.declared.Resource.{Resource}
 use Rattle.board.specs.declared.Board.{Board}
-use Rattle.board.specs.Resources.{resourcesOf, isAt, onBoard}
+use Rattle.board.specs.Resources.{noResource, resourcesOf, isAt, onBoard}
 use Rattle.board.specs.Valid as board
 use Rattle.board.proofs.Meaning.{lookup-is}
 use Rattle.timeline.specs.Valid as timeline
 use Rattle.scheduler.specs.Alone.{companionsOf}
 use Rattle.scheduler.specs.Choosing.{Candidate, sort, Held, heldFor, holdFirst}
-use Rattle.scheduler.specs.declared.Entry.{Entry}
 use Rattle.scheduler.specs.Fitting.{numbersOf, durationTogether, heldEntries, among, joinEach, allCompanions, companionEntry, companionEntries, entriesOf, shareOf, sharesOf}
 use Rattle.scheduler.specs.Plain.{startsThere, candidateAt, startable, heldAt}
 use Rattle.scheduler.specs.Lists.{Each, each-end, each-on, each-append, each-take}
+use Rattle.scheduler.specs.Arrays.{each-cells}
 use Rattle.scheduler.specs.Together.{Sound}
 use Rattle.scheduler.specs.Ranking.{each-sort}
-use Rattle.scheduler.specs.Ruled.{each-index, on-valid}
+use Rattle.scheduler.specs.Ruled.{on-valid}
 
 module _ (b : Board) where
   -- a resource on the board whose companions are
@@ -48,7 +48,7 @@ module _ (b : Board) where
     module _ (v : board.valid b ≡ true) where
       on-board : Each (λ r. onBoard b (r .number) ≡ true) (resourcesOf b)
       unfolding isAt
-      on-board = each-index (λ r. onBoard b (r .number) ≡ true) (b .len) (b .resources) (λ i l m. ap isAt (lookup-is b v i l))
+      on-board = each-cells (λ r. onBoard b (r .number) ≡ true) noResource (b .len) (b .resources) (λ i l m. ap isAt (lookup-is b v i l))
 
       pub held-at-whole : (qs : List ResourceRequirement) (t : ℕ) → Each (λ h. Whole (h .resource)) (heldAt b a ready qs t)
       unfolding heldAt holdFirst
@@ -89,15 +89,11 @@ module _ (b : Board) where
   companion-shares v [] each-end = each-end
   companion-shares v (c ∷ cs) (each-on p z) = each-on (on-valid b v c p) (companion-shares v cs z)
 
-  map-append : (xs ys : List Entry) → sharesOf b (xs ++ ys) ≡ sharesOf b xs ++ sharesOf b ys
-  map-append [] ys = refl
-  map-append (x ∷ xs) ys = rw (map-append xs ys) refl
-
   -- the diaries of the entries keep the rules
   pub entries-sound : (v : board.valid b ≡ true) (a : Activity) (hs : List Held) → Each (λ h. Whole (h .resource)) hs → Sound (sharesOf b (entriesOf a hs))
   unfolding entriesOf companionEntries
   entries-sound v a hs z =
       let E = heldEntries (a .category) (durationTogether a hs .setup) hs in
       let J = joinEach (numbersOf hs) [] (allCompanions hs) in
-      subst Sound (sym (map-append E (map companionEntry J)))
+      subst Sound (sym (map-append (shareOf b) E (map companionEntry J)))
       (each-append (λ x. timeline.valid (x .timeline) ≡ true) (sharesOf b E) (sharesOf b (map companionEntry J)) (held-shares v (a .category) (durationTogether a hs .setup) hs z) (companion-shares v J (join-on (numbersOf hs) [] (allCompanions hs) each-end (companions-on hs z))))

@@ -5,6 +5,7 @@ use mathlib.Core.List.{List, [], _∷_, _++_, map}
 use Prim.Native.Nat.{ℕ, zero, suc, _+_, _≤_}
 use native.Mathlib.Omega.{arith}
 use lib.ListN.{length, length-append, length-map, length-take, take}
+use lib.Seq.{take-append-le}
 use lib.Dec.{leb, ltb}
 use borrow.Author.Tests.{leb-true, le-leb, ltb-false, le-ltb}
 use Rattle.calendar.specs.Basics.{and-split, and-join, not-both}
@@ -14,7 +15,7 @@ use Rattle.board.specs.declared.Board.{Board}
 use Rattle.board.specs.Resources.{resourcesOf}
 use Rattle.scheduler.specs.Choosing.{Candidate, sort, candidates, Held, heldFor, holdFirst, Round, tooFew, holds, behind, hold, round, greatestStart}
 use Rattle.scheduler.specs.Plain.{startable, enough, heldAt}
-use Rattle.scheduler.specs.Lists.{Each, each-end, each-on, each-append, each-take, take-front, each-left, each-right}
+use Rattle.scheduler.specs.Lists.{Each, each-end, each-on, each-append, each-take, each-left, each-right}
 use Rattle.scheduler.specs.Ranking.{Low, High, low, high, low-each, high-each, low-high, sort-split, each-sort, length-sort}
 use Rattle.scheduler.specs.Answering.{Kept, low-startable, low-more, candidates-from}
 
@@ -62,7 +63,7 @@ each-hold P q cs a = go (take (q .quantity) cs) (each-take {A = Candidate} (λ c
 -- the first quantity of two lists, where the first list has so many
 pub each-hold-front : (P : ℕ → Type 0) (q : ResourceRequirement) (xs ys : List Candidate) → q .quantity ≤ length xs → Each {A = Candidate} (λ c. P (c .start)) xs → Each {A = Held} (λ h. P (h .start)) (holdFirst q (xs ++ ys))
 unfolding holdFirst
-each-hold-front P q xs ys l a = rw (take-front (q .quantity) xs ys l) (each-hold P q xs a)
+each-hold-front P q xs ys l a = rw (take-append-le (q .quantity) xs ys l) (each-hold P q xs a)
 
 pub each-held : (P : ℕ → Type 0) (q : ResourceRequirement) (cs : List Candidate) → Each {A = Held} (λ h. P (h .start)) (holdFirst q cs) → Each {A = Candidate} (λ c. P (c .start)) (take (q .quantity) cs)
 unfolding holdFirst
@@ -116,7 +117,7 @@ module _ (b : Board) (a : Activity) (ready : ℕ) (kept : (q : ResourceRequireme
       same l =
           ap (λ l. map (heldFor q) l)
           (ap (take (q .quantity)) (sort-split t (here q t))
-          ∙ take-front (q .quantity) (sort (low t (here q t))) (sort (high t (here q t))) (omega (arith, length-low q t, length-sort [] (low t (here q t))))
+          ∙ take-append-le (q .quantity) (sort (low t (here q t))) (sort (high t (here q t))) (omega (arith, length-low q t, length-sort [] (low t (here q t))))
           ∙ ap (λ l. take (q .quantity) (sort l)) (low-startable b a ready q t (resourcesOf b) (kept q)))
 
   -- and asked from an earlier instant on, it holds some that start by then

@@ -26,17 +26,12 @@ use Rattle.board.proofs.Meaning.{lookup-means, resource-of}
 use Rattle.scheduler.specs.Alone.{resourceIn, diaryOf, oneUnit, companionsOf, withCompanions, arrival}
 use Rattle.scheduler.specs.Fitting.{among}
 use Rattle.scheduler.specs.Lists.{Each, each-end, each-on}
+use Rattle.scheduler.specs.Arrays.{each-cells}
 use Rattle.scheduler.specs.Together.{Sound}
 use Rattle.scheduler.specs.Answering.{Kept}
 use Rattle.scheduler.specs.Events.{events, eventsOf, among-append}
 use Rattle.scheduler.specs.Chosen.{Listed}
 use Rattle.scheduler.specs.Tests.{or-in-left, or-in-right, or-cases}
-
--- what holds of every cell below n holds of each of the first n
-pub each-index : (P : Resource → Type 0) (n : ℕ) (xs : List Resource) → ((i : ℕ) → i < n → i < length xs → P (getD xs i noResource)) → Each P (take n xs)
-each-index P zero xs f = each-end
-each-index P (suc n) [] f = each-end
-each-index P (suc n) (x ∷ xs) f = each-on (f 0 (omega arith) (omega arith)) (each-index P n xs (λ i l m. f (suc i) (omega arith) (omega arith)))
 
 -- the events on all diaries of a list of resources
 unfoldable pub eventsOn : List Resource → List ℕ
@@ -145,17 +140,17 @@ module _ (b : Board) (v : board.valid b ≡ true) where
   -- 128 events on each of 16 diaries
   pub events-board : length (eventsOn (resourcesOf b)) ≤ 2048
   events-board =
-      let w = each-index (λ r. timeline.valid (r .timeline) ≡ true) (b .len) (b .resources) (λ i l m. diary-valid i l) in
+      let w = each-cells (λ r. timeline.valid (r .timeline) ≡ true) noResource (b .len) (b .resources) (λ i l m. diary-valid i l) in
       omega (arith, on-length (resourcesOf b) w, length-take (b .len) (b .resources), rules b v .few)
 
   module _ (a : Activity) (ready : ℕ) where
     pub all-kept : (q : ResourceRequirement) → Each (Kept b a ready q) (resourcesOf b)
     unfolding withCompanions
-    all-kept q = each-index (Kept b a ready q) (b .len) (b .resources) (λ i l m e. each-on (diary-valid i l) (companions-sound (companionsOf (resourceAt b i)) e))
+    all-kept q = each-cells (Kept b a ready q) noResource (b .len) (b .resources) (λ i l m e. each-on (diary-valid i l) (companions-sound (companionsOf (resourceAt b i)) e))
 
     pub all-listed : (q : ResourceRequirement) → Each (Listed b a ready all-kept (points b a ready) q) (resourcesOf b)
     unfolding withCompanions eventsOf points among
-    all-listed q = each-index (Listed b a ready all-kept (points b a ready) q) (b .len) (b .resources) one
+    all-listed q = each-cells (Listed b a ready all-kept (points b a ready) q) noResource (b .len) (b .resources) one
       where
         first : List ℕ
         first = map (arrival b a ready) (resourcesOf b)

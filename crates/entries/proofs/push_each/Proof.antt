@@ -69,7 +69,7 @@ returns c =
     let q = c .before .before .before .pre in
     let z : c .before .loop .i ≡ a .count = omega arith in
     let e = rw z at (v .3) in
-    (refl, e, subst (Each Small) (sym e) (each-append Small (take (a .list .len) (a .list .numbers)) (take (a .count) (a .t2)) (q .2) (each-cells Small 0 (a .count) (a .t2) (omega (arith, v .2)) (q .3))))
+    (refl, e, subst (Each Small) (sym e) (each-append Small (take (a .list .len) (a .list .numbers)) (take (a .count) (a .t2)) (q .2) (each-cells Small 0 (a .count) (a .t2) (λ k l m. q .3 k l))))
 
 pub push-each-spec : {M : Type 1} → statement M
 push-each-spec =
