@@ -1,17 +1,18 @@
 -- The replies of a commitment, over plain values: each refusal in its order, and the board booked.
 use mathlib.Core.Path.{_≡_, refl, sym, _∙_}
-use mathlib.Core.Bool.{Bool, true, false, not, _&&_, _||_}
-use mathlib.Core.List.{List}
+use mathlib.Core.Bool.{Bool, true, false, not, _&&_, _||_, cond}
+use mathlib.Core.List.{List, []}
+use mathlib.Core.Logic.{⊎-elim}
 use Prim.Native.Nat.{ℕ, _+_, _^_, _≤_, _<_}
+use native.Mathlib.Omega.{arith}
 use lib.ListN.{length}
 use lib.Dec.{leb, ltb, eqb}
-use borrow.Author.Tests.{lt-leb, le-ltb, lt-ltb, le-leb, ltb-false, leb-false, not-false, not-true}
-use Rattle.calendar.specs.Basics.{unrefused}
+use borrow.Author.Tests.{lt-leb, le-ltb, lt-ltb, le-leb, ltb-false, leb-false, not-false, not-true, ne-eqb}
+use Rattle.calendar.specs.Basics.{unrefused, same-or-not}
 use Rattle.activity.specs.Check.{every}
 use Rattle.board.specs.declared.Board.{Board}
 use Rattle.board.specs.Resources.{onBoard}
-use Rattle.board.specs.Valid.{valid}
-use Rattle.board.specs.Enter.{entered}
+use Rattle.board.specs.Valid as board
 use Rattle.board.proofs.Replying.{refused-by, taken-by}
 use Rattle.scheduler.specs.Alone.{diaryOf}
 use Rattle.scheduler.specs.Committing.{Line, linesOf, entriesOn, linesRefusal, commitRefusal, bookAll, commitReply}
@@ -75,7 +76,7 @@ module _ (b : Board) (ls : List Line) (start end category : ℕ) where
               refused-none r = rw (on, le-ltb 15 category c, le-ltb (2 ^ 42) start s, le-ltb (2 ^ 42) end e, lt-leb end start o, u, r) refl
 
   -- lines that are not refused can be booked
-  pub all-fine : valid b ≡ true → (n : ℕ) → n ≡ linesRefusal b ls start end category → n ≡ 0 → Bookable start end category × Each (Right b) ls × Room b ls
+  pub all-fine : board.valid b ≡ true → (n : ℕ) → n ≡ linesRefusal b ls start end category → n ≡ 0 → Bookable start end category × Each (Right b) ls × Room b ls
   unfolding linesRefusal
   all-fine v n q z =
       let x0 = unrefused (not (allOn b ls) || ltb 15 category) 4 _ (sym q ∙ z) in
@@ -92,31 +93,72 @@ module _ (b : Board) (ls : List Line) (start end category : ℕ) where
         room-passed b ls v (not-false (allRoomy b ls) (x4 .0)),
       )
 
-module _ (b : Board) (slate : List (List ℕ)) (count start end category : ℕ) where
-  pub reply-rules : valid b ≡ false → record { refusal = 15; board = b } ≡ commitReply b slate count start end category
-  unfolding commitReply commitRefusal entered
-  reply-rules v = rw v refl
+-- what a commitment that is not refused has: a board that keeps the rules, rows enough, and lines that can be booked
+pub record Fine (b : Board) (slate : List (List ℕ)) (count start end category : ℕ) : Type 0 where
+  pub valid : board.valid b ≡ true
+  pub enough : count ≤ length slate
+  pub bookable : 0 < count → Bookable start end category
+  pub right : Each (Right b) (linesOf count slate)
+  pub room : Room b (linesOf count slate)
 
-  module _ (v : valid b ≡ true) where
-    pub reply-none : count ≡ 0 → record { refusal = 0; board = b } ≡ commitReply b slate count start end category
-    unfolding commitReply commitRefusal entered linesOf bookAll
-    reply-none z = rw (v, z) refl
+module _ (b : Board) (slate : List (List ℕ)) (count start end category : ℕ) where
+  pub refusal-rules : board.valid b ≡ false → 15 ≡ commitRefusal b slate count start end category
+  unfolding commitRefusal
+  refusal-rules v = rw v refl
+
+  module _ (v : board.valid b ≡ true) where
+    pub refusal-none : count ≡ 0 → 0 ≡ commitRefusal b slate count start end category
+    unfolding commitRefusal
+    refusal-none z = rw (v, z) refl
 
     module _ (some : eqb count 0 ≡ false) where
-      pub reply-count : length slate < count → record { refusal = 7; board = b } ≡ commitReply b slate count start end category
-      unfolding commitReply commitRefusal entered
-      reply-count l = rw (v, some, lt-ltb (length slate) count l) refl
+      pub refusal-count : length slate < count → 7 ≡ commitRefusal b slate count start end category
+      unfolding commitRefusal
+      refusal-count l = rw (v, some, lt-ltb (length slate) count l) refl
 
-      module _ (l : count ≤ length slate) where
-        refusal-is : linesRefusal b (linesOf count slate) start end category ≡ commitRefusal b slate count start end category
-        unfolding commitRefusal
-        refusal-is = rw (v, some, le-ltb (length slate) count l) refl
+      pub refusal-lines : count ≤ length slate → linesRefusal b (linesOf count slate) start end category ≡ commitRefusal b slate count start end category
+      unfolding commitRefusal
+      refusal-lines l = rw (v, some, le-ltb (length slate) count l) refl
 
-        pub reply-refused : (n : ℕ) → n ≡ linesRefusal b (linesOf count slate) start end category → (n ≡ 0 → ⊥) → record { refusal = n; board = b } ≡ commitReply b slate count start end category
-        unfolding commitReply
-        reply-refused n e h = refused-by n (commitRefusal b slate count start end category) b (bookAll start end category (linesOf count slate) b) (e ∙ refusal-is) h
+  fine-none : board.valid b ≡ true → count ≡ 0 → Fine b slate count start end category
+  unfolding every linesOf
+  fine-none v z = record {
+    valid = v;
+    enough = omega (arith, z);
+    bookable = λ l. absurd (omega (arith, z));
+    right = rw z (passed b [] refl refl);
+    room = rw z (room-passed b [] v refl);
+  }
 
-        pub reply-taken : (after : Board) (n : ℕ) → n ≡ linesRefusal b (linesOf count slate) start end category → n ≡ 0 → after ≡ bookAll start end category (linesOf count slate) b
-            → record { refusal = 0; board = after } ≡ commitReply b slate count start end category
-        unfolding commitReply
-        reply-taken after n e h z = rw z (taken-by (commitRefusal b slate count start end category) b (bookAll start end category (linesOf count slate) b) (sym refusal-is ∙ sym e ∙ h))
+  fine-some : board.valid b ≡ true → eqb count 0 ≡ false → cond (ltb (length slate) count) 7 (linesRefusal b (linesOf count slate) start end category) ≡ 0 → Fine b slate count start end category
+  fine-some v some e =
+      let x = unrefused (ltb (length slate) count) 6 _ e in
+      let w = all-fine b (linesOf count slate) start end category v 0 (sym (x .1)) refl in
+      record {
+        valid = v;
+        enough = ltb-false (length slate) count (x .0);
+        bookable = λ l. w .0;
+        right = w .1;
+        room = w .2;
+      }
+
+  pub fine : (n : ℕ) → n ≡ commitRefusal b slate count start end category → n ≡ 0 → Fine b slate count start end category
+  unfolding commitRefusal
+  fine n q z =
+      let x = unrefused (not (board.valid b)) 14 _ (sym q ∙ z) in
+      let v = not-false (board.valid b) (x .0) in
+      ⊎-elim
+      (λ (h : 0 ≡ count). fine-none v (sym h))
+      (λ (h : count ≡ 0 → ⊥).
+      let some = ne-eqb count 0 h in
+      fine-some v some (rw some at (x .1)))
+      (same-or-not 0 count)
+
+  pub reply-refused : (n : ℕ) → n ≡ commitRefusal b slate count start end category → (n ≡ 0 → ⊥) → record { refusal = n; board = b } ≡ commitReply b slate count start end category
+  unfolding commitReply
+  reply-refused n e h = refused-by n (commitRefusal b slate count start end category) b (bookAll start end category (linesOf count slate) b) e h
+
+  pub reply-taken : (after : Board) (n : ℕ) → n ≡ commitRefusal b slate count start end category → n ≡ 0 → after ≡ bookAll start end category (linesOf count slate) b
+      → record { refusal = 0; board = after } ≡ commitReply b slate count start end category
+  unfolding commitReply
+  reply-taken after n e h z = rw z (taken-by (commitRefusal b slate count start end category) b (bookAll start end category (linesOf count slate) b) (sym e ∙ h))

@@ -4,16 +4,18 @@ use board::Board;
 use board::Entered;
 use board::LastCategory;
 use board::Resource;
+use board_rules::Places;
 ghost use mathlib.Core.Path.{_≡_};
 ghost use mathlib.Core.Bool.{true};
-ghost use Prim.Native.Nat.{_≤_, _<_};
-ghost use lib.ListN.{length};
+ghost use Prim.Native.Nat.{ℕ, _≤_, _<_};
+ghost use lib.ListN.{getD};
 ghost use Rattle.timeline.specs.Valid as timeline;
+ghost use Rattle.board.specs.declared.Board as declared;
 ghost use Rattle.board.specs.Valid.{valid};
-ghost use Rattle.scheduler.specs.Committing.{linesOf, booked, bookAll, commitReply};
-ghost use Rattle.scheduler.specs.Committed.{Bookable, Right, Room};
-ghost use Rattle.scheduler.specs.Lists.{Each};
+ghost use Rattle.scheduler.specs.Committing.{booked, commitRefusal, commitReply};
+ghost use Rattle.scheduler.specs.Committed.{Bookable};
 ghost use Rattle.alone.specs.Plans.{Known};
+ghost use Rattle.commit_checks.specs.Lines.{Lengths};
 
 // The resource with a booking more; one with a matrix takes the category, unless it is a companion.
 fn book_on(r: Resource, start: u64, end: u64, category: u8, units: u32, companion: bool) -> Resource
@@ -43,32 +45,23 @@ fn book_on(r: Resource, start: u64, end: u64, category: u8, units: u32, companio
     }
 }
 
-// Books each of the first `count` rows in turn.
-fn book_all(
-    b: Board,
-    places: [usize; 16],
-    slate: &[[u64; 4]],
-    count: usize,
-    start: u64,
-    end: u64,
-    category: u8,
-) -> Board
-    requires { ⌜ (valid b ≡ true) × Known b places × (count ≤ length (now slate)) × Bookable start end category ⌝ }
-    requires { ⌜ Each (Right b) (linesOf count (now slate)) × Room b (linesOf count (now slate)) ⌝ }
-    ensures { λ r. ⌜ r ≡ bookAll start end category (linesOf count (now (slate .entry))) b ⌝ }
+// The refusal of a commitment, 0 for none: 15 a board that breaks the rules; no entries: none; 7 a count above the slate; then the rows'.
+fn refusal_of(p: Places, slate: &[[u64; 4]], count: usize, start: u64, end: u64, category: u8) -> u8
+    requires { ⌜ (p .right ≡ true → (k : ℕ) → k < 16 → getD (p .lens) k 0 ≤ 64) ⌝ }
+    ensures { λ r. ⌜ ((b : declared.Board) → p .right ≡ valid b → (valid b ≡ true → Known b (p .places) × Lengths b (p .lens)) → r ≡ commitRefusal b (now (slate .entry)) count start end category) ⌝ }
 {
-    let mut board = b;
-    let mut i: usize = 0;
-    while i < count {
-        let row = slate[i];
-        let number = row[0] as usize;
-        let place = places[number];
-        let r = board.resources[place];
-        let x = book_on(r, start, end, category, row[2] as u32, row[3] != 0);
-        board.resources[place] = x;
-        i += 1;
+    if !p.right {
+        return 15;
     }
-    board
+    if count == 0 {
+        return 0;
+    }
+    if count > slate.len() {
+        return 7;
+    }
+    let lens = p.lens;
+    let places = p.places;
+    commit_checks::lines_refusal(lens, places, slate, count, start, end, category)
 }
 
 // Books the first `count` entries of the slate, or refuses: 15 a board that breaks the rules; no entries: accepted; 7 a count above the
@@ -84,36 +77,27 @@ pub fn commit(
     ensures { λ r. ⌜ r ≡ commitReply b (now (slate .entry)) count start end category ⌝ }
 {
     let p = board_rules::places_of(b);
-    if !p.right {
-        return Entered {
-            refusal: 15,
-            board: b,
-        };
-    }
-    if count == 0 {
-        return Entered {
-            refusal: 0,
-            board: b,
-        };
-    }
-    if count > slate.len() {
-        return Entered {
-            refusal: 7,
-            board: b,
-        };
-    }
-    let places = p.places;
-    let lens = p.lens;
-    let refusal = commit_checks::lines_refusal(lens, places, slate, count, start, end, category);
+    let refusal = refusal_of(p, slate, count, start, end, category);
     if refusal != 0 {
         return Entered {
             refusal: refusal,
             board: b,
         };
     }
-    let after = book_all(b, places, slate, count, start, end, category);
+    let places = p.places;
+    let mut board = b;
+    let mut i: usize = 0;
+    while i < count {
+        let row = slate[i];
+        let number = row[0] as usize;
+        let place = places[number];
+        let r = board.resources[place];
+        let x = book_on(r, start, end, category, row[2] as u32, row[3] != 0);
+        board.resources[place] = x;
+        i += 1;
+    }
     Entered {
         refusal: 0,
-        board: after,
+        board: board,
     }
 }

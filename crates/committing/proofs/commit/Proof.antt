@@ -1,71 +1,210 @@
--- `committing::commit` meets its contract.
+-- `committing::commit` meets its contract. The loop: booking the lines left makes the whole (Ahead).
 use borrow.Author.Needs.{needs}
+use mathlib.Core.Path.{_≡_, refl, sym, _∙_}
+use Prim.Native.Nat.{_-_, _≤_, _<_}
+use native.Mathlib.Omega.{arith}
+use lib.ListN.{length, drop, length-map}
 use Rattle.committing.proofs.commit.Statement.{statement}
 use Rattle.committing.proofs.commit.Tie as tie
-use borrow.Author.Tests.{not-true, not-false, ne-eqb}
-use mathlib.Core.Path.{sym, _∙_}
-use Rattle.scheduler.specs.Committing.{linesOf}
-use Rattle.commit_checks.proofs.Refusing.{reply-rules, reply-none, reply-count, reply-refused, reply-taken, all-fine}
+use Rattle.scheduler.specs.Committing.{linesOf, bookAll}
+use Rattle.scheduler.specs.Committed.{Bookable}
+use Rattle.commit_checks.proofs.Refusing.{fine, reply-refused, reply-taken}
+use Rattle.committing.proofs.Ahead.{Ahead, ahead-none, lines-none, row-here, row-next}
 
-places-of-requires : tie.Need-places-of-requires
+abbrev Inv-loop : tie.InvT-loop
+Inv-loop slate count start end category refusal places board₀ i₀ board i = (i ≤ count) × (count ≤ length slate) × (0 < count → Bookable start end category) × Ahead start end category places (bookAll start end category (linesOf count slate) board₀) board (linesOf (count - i) (drop i slate))
+
+abbrev μ-loop : tie.MeasureT-loop
+μ-loop slate count start end category refusal places board₀ i₀ board i = count - i
+
+places-of-requires : tie.Need-places-of-requires Inv-loop μ-loop
 places-of-requires c κs = search needs
 
-returns : tie.Need-returns
+refusal-of-requires : tie.Need-refusal-of-requires Inv-loop μ-loop
+refusal-of-requires c κs = λ e k l. c .places-of .ensures .3 k l (sym (c .places-of .ensures .0) ∙ e)
+
+returns : tie.Need-returns Inv-loop μ-loop
 returns c =
     let a = c .before .before .before .args in
-    let s = a .slate .now in
-    reply-rules (a .b) s (a .count) (a .start) (a .end) (a .category) (sym (c .before .before .places-of .ensures .0) ∙ not-true _ (c .if1 .taken))
+    reply-refused (a .b) (a .slate .now) (a .count) (a .start) (a .end) (a .category) (c .before .refusal-of .result) (c .before .refusal-of .ensures (a .b) (c .before .before .places-of .ensures .0) (λ v. ((λ n m. c .before .before .places-of .ensures .1 n m v), λ i m. c .before .before .places-of .ensures .2 i m v))) (c .if1 .taken)
 
-returns-2 : tie.Need-returns-2
-returns-2 c =
+loop-holds : tie.Need-loop-holds Inv-loop μ-loop
+loop-holds c =
     let a = c .before .before .before .before .args in
-    let s = a .slate .now in
-    let v = sym (c .before .before .before .places-of .ensures .0) ∙ not-false _ (c .before .if1 .left) in
-    reply-none (a .b) s (a .count) (a .start) (a .end) (a .category) v (c .if2 .taken)
+    let f = fine (a .b) (a .slate .now) (a .count) (a .start) (a .end) (a .category) (c .before .before .refusal-of .result) (c .before .before .refusal-of .ensures (a .b) (c .before .before .before .places-of .ensures .0) (λ v. ((λ n m. c .before .before .before .places-of .ensures .1 n m v), λ i m. c .before .before .before .places-of .ensures .2 i m v))) (c .before .if1 .left) in
+    let z : a .count - 0 ≡ a .count = omega arith in
+    (omega arith, f .enough, f .bookable, rw z (record { long = simp length-map at (c .before .before .before .before .good .0 .1 .1 .0 .1 .0 .1); valid = f .valid; known = λ n m. c .before .before .before .places-of .ensures .1 n m (f .valid); right = f .right; room = f .room; same = refl }))
 
-returns-3 : tie.Need-returns-3
-returns-3 c =
-    let a = c .before .before .before .before .before .args in
-    let s = a .slate .now in
-    let v = sym (c .before .before .before .before .places-of .ensures .0) ∙ not-false _ (c .before .before .if1 .left) in
-    reply-count (a .b) s (a .count) (a .start) (a .end) (a .category) v (ne-eqb (a .count) 0 (c .before .if2 .left)) (c .if3 .taken)
+mul-row : tie.Need-mul-row Inv-loop μ-loop
+mul-row c = search needs
 
-lines-refusal-requires : tie.Need-lines-refusal-requires
-lines-refusal-requires c κs =
-    let v = sym (c .before .before .before .before .before .before .places-of .ensures .0) ∙ not-false _ (c .before .before .before .before .if1 .left) in
-    (c .before .before .if3 .left, λ k m. c .before .before .before .before .before .before .places-of .ensures .3 k m v)
+shared-slice-copy-out-row : tie.Need-shared-slice-copy-out-row Inv-loop μ-loop
+shared-slice-copy-out-row c =
+    let v = c .before .loop .inv in
+    let l = c .loop-test .taken in
+    omega (arith, v .1)
 
-returns-4 : tie.Need-returns-4
-returns-4 c =
+array-read-number : tie.Need-array-read-number Inv-loop μ-loop
+array-read-number c = search needs
+
+mul-place : tie.Need-mul-place Inv-loop μ-loop
+mul-place c =
+    let a = c .before .before .before .before .before .before .before .args in
+    let places = c .before .before .before .before .before .before .places-of .result .places in
+    let v = c .before .before .loop .inv in
+    let i = c .before .before .loop .i in
+    let l = c .before .loop-test .taken in
+    let n = c .before .before .loop .board in
+    let whole = bookAll (a .start) (a .end) (a .category) (linesOf (a .count) (a .slate .now)) (a .b) in
+    let h = row-here (a .start) (a .end) (a .category) places whole n (a .slate .now) i (a .count) l (v .1) (v .3) in
+    search needs
+
+array-read-place : tie.Need-array-read-place Inv-loop μ-loop
+array-read-place c =
+    let a = c .before .before .before .before .before .before .before .args in
+    let places = c .before .before .before .before .before .before .places-of .result .places in
+    let v = c .before .before .loop .inv in
+    let i = c .before .before .loop .i in
+    let l = c .before .loop-test .taken in
+    let n = c .before .before .loop .board in
+    let whole = bookAll (a .start) (a .end) (a .category) (linesOf (a .count) (a .slate .now)) (a .b) in
+    let h = row-here (a .start) (a .end) (a .category) places whole n (a .slate .now) i (a .count) l (v .1) (v .3) in
+    search needs
+
+mul-r : tie.Need-mul-r Inv-loop μ-loop
+mul-r c =
+    let a = c .before .before .before .before .before .before .before .args in
+    let places = c .before .before .before .before .before .before .places-of .result .places in
+    let v = c .before .before .loop .inv in
+    let i = c .before .before .loop .i in
+    let l = c .before .loop-test .taken in
+    let n = c .before .before .loop .board in
+    let whole = bookAll (a .start) (a .end) (a .category) (linesOf (a .count) (a .slate .now)) (a .b) in
+    let h = row-here (a .start) (a .end) (a .category) places whole n (a .slate .now) i (a .count) l (v .1) (v .3) in
+    search needs
+
+element-copy-out-r : tie.Need-element-copy-out-r Inv-loop μ-loop
+element-copy-out-r c =
+    let a = c .before .before .before .before .before .before .before .args in
+    let places = c .before .before .before .before .before .before .places-of .result .places in
+    let v = c .before .before .loop .inv in
+    let i = c .before .before .loop .i in
+    let l = c .before .loop-test .taken in
+    let n = c .before .before .loop .board in
+    let whole = bookAll (a .start) (a .end) (a .category) (linesOf (a .count) (a .slate .now)) (a .b) in
+    let h = row-here (a .start) (a .end) (a .category) places whole n (a .slate .now) i (a .count) l (v .1) (v .3) in
+    search needs
+
+array-read-book-on : tie.Need-array-read-book-on Inv-loop μ-loop
+array-read-book-on c = search needs
+
+cast-book-on : tie.Need-cast-book-on Inv-loop μ-loop
+cast-book-on c =
+    let a = c .before .before .before .before .before .before .before .before .args in
+    let places = c .before .before .before .before .before .before .before .places-of .result .places in
+    let v = c .before .before .before .loop .inv in
+    let i = c .before .before .before .loop .i in
+    let l = c .before .before .loop-test .taken in
+    let n = c .before .before .before .loop .board in
+    let whole = bookAll (a .start) (a .end) (a .category) (linesOf (a .count) (a .slate .now)) (a .b) in
+    let h = row-here (a .start) (a .end) (a .category) places whole n (a .slate .now) i (a .count) l (v .1) (v .3) in
+    let few = h .few in
+    omega (arith, few)
+
+array-read-book-on-2 : tie.Need-array-read-book-on-2 Inv-loop μ-loop
+array-read-book-on-2 c = search needs
+
+book-on-requires : tie.Need-book-on-requires Inv-loop μ-loop
+book-on-requires c κs =
+    let a = c .before .before .before .before .before .before .before .before .args in
+    let places = c .before .before .before .before .before .before .before .places-of .result .places in
+    let v = c .before .before .before .loop .inv in
+    let i = c .before .before .before .loop .i in
+    let l = c .before .before .loop-test .taken in
+    let n = c .before .before .before .loop .board in
+    let whole = bookAll (a .start) (a .end) (a .category) (linesOf (a .count) (a .slate .now)) (a .b) in
+    let h = row-here (a .start) (a .end) (a .category) places whole n (a .slate .now) i (a .count) l (v .1) (v .3) in
+    (h .kept, h .free, v .2 (omega (arith, l)), h .some, h .few)
+
+mul-x : tie.Need-mul-x Inv-loop μ-loop
+mul-x c =
     let a = c .before .before .before .before .before .before .before .before .before .args in
-    let s = a .slate .now in
-    let v = sym (c .before .before .before .before .before .before .before .before .places-of .ensures .0) ∙ not-false _ (c .before .before .before .before .before .before .if1 .left) in
-    reply-refused (a .b) s (a .count) (a .start) (a .end) (a .category) v (ne-eqb (a .count) 0 (c .before .before .before .before .before .if2 .left)) (c .before .before .before .before .if3 .left) (c .before .lines-refusal .result) (c .before .lines-refusal .ensures (a .b) v (λ n m. c .before .before .before .before .before .before .before .before .places-of .ensures .1 n m v) (λ i m. c .before .before .before .before .before .before .before .before .places-of .ensures .2 i m v)) (c .if4 .taken)
+    let places = c .before .before .before .before .before .before .before .before .places-of .result .places in
+    let v = c .before .before .before .before .loop .inv in
+    let i = c .before .before .before .before .loop .i in
+    let l = c .before .before .before .loop-test .taken in
+    let n = c .before .before .before .before .loop .board in
+    let whole = bookAll (a .start) (a .end) (a .category) (linesOf (a .count) (a .slate .now)) (a .b) in
+    let h = row-here (a .start) (a .end) (a .category) places whole n (a .slate .now) i (a .count) l (v .1) (v .3) in
+    let low = h .place-low in
+    let number = h .low in
+    omega (arith, low, number)
 
-book-all-requires : tie.Need-book-all-requires
-book-all-requires c κs =
+element-set-from-x : tie.Need-element-set-from-x Inv-loop μ-loop
+element-set-from-x c =
     let a = c .before .before .before .before .before .before .before .before .before .args in
-    let s = a .slate .now in
-    let v = sym (c .before .before .before .before .before .before .before .before .places-of .ensures .0) ∙ not-false _ (c .before .before .before .before .before .before .if1 .left) in
-    let w = all-fine (a .b) (linesOf (a .count) s) (a .start) (a .end) (a .category) v (c .before .lines-refusal .result) (c .before .lines-refusal .ensures (a .b) v (λ n m. c .before .before .before .before .before .before .before .before .places-of .ensures .1 n m v) (λ i m. c .before .before .before .before .before .before .before .before .places-of .ensures .2 i m v)) (c .if4 .left) in
-    ((v, (λ n m. c .before .before .before .before .before .before .before .before .places-of .ensures .1 n m v), c .before .before .before .before .if3 .left, w .0), (w .1, w .2))
+    let places = c .before .before .before .before .before .before .before .before .places-of .result .places in
+    let v = c .before .before .before .before .loop .inv in
+    let i = c .before .before .before .before .loop .i in
+    let l = c .before .before .before .loop-test .taken in
+    let n = c .before .before .before .before .loop .board in
+    let whole = bookAll (a .start) (a .end) (a .category) (linesOf (a .count) (a .slate .now)) (a .b) in
+    let h = row-here (a .start) (a .end) (a .category) places whole n (a .slate .now) i (a .count) l (v .1) (v .3) in
+    let low = h .place-low in
+    let number = h .low in
+    omega (arith, low, number)
 
-returns-5 : tie.Need-returns-5
-returns-5 c =
-    let a = c .before .before .before .before .before .before .before .before .before .before .args in
-    let s = a .slate .now in
-    let v = sym (c .before .before .before .before .before .before .before .before .before .places-of .ensures .0) ∙ not-false _ (c .before .before .before .before .before .before .before .if1 .left) in
-    reply-taken (a .b) s (a .count) (a .start) (a .end) (a .category) v (ne-eqb (a .count) 0 (c .before .before .before .before .before .before .if2 .left)) (c .before .before .before .before .before .if3 .left) (c .book-all .result) (c .before .before .lines-refusal .result) (c .before .before .lines-refusal .ensures (a .b) v (λ n m. c .before .before .before .before .before .before .before .before .before .places-of .ensures .1 n m v) (λ i m. c .before .before .before .before .before .before .before .before .before .places-of .ensures .2 i m v)) (c .before .if4 .left) (c .book-all .ensures)
+add-i : tie.Need-add-i Inv-loop μ-loop
+add-i c = search needs
+
+loop-less : tie.Need-loop-less Inv-loop μ-loop
+loop-less c = search needs
+
+loop-again : tie.Need-loop-again Inv-loop μ-loop
+loop-again c =
+    let a = c .before .before .before .before .before .before .before .before .before .args in
+    let places = c .before .before .before .before .before .before .before .before .places-of .result .places in
+    let v = c .before .before .before .before .loop .inv in
+    let i = c .before .before .before .before .loop .i in
+    let l = c .before .before .before .loop-test .taken in
+    let n = c .before .before .before .before .loop .board in
+    let whole = bookAll (a .start) (a .end) (a .category) (linesOf (a .count) (a .slate .now)) (a .b) in
+    (omega arith, v .1, v .2, row-next (a .start) (a .end) (a .category) places whole n (a .slate .now) i (a .count) l (v .1) (v .3) (v .2 (omega (arith, l))) (c .book-on .result) _ (c .book-on .ensures))
+
+returns-2 : tie.Need-returns-2 Inv-loop μ-loop
+returns-2 c =
+    let a = c .before .before .before .before .before .before .args in
+    let places = c .before .before .before .before .before .places-of .result .places in
+    let v = c .before .loop .inv in
+    let i = c .before .loop .i in
+    let l = c .loop-test .left in
+    let whole = ahead-none (a .start) (a .end) (a .category) places _ (c .before .loop .board) _ (lines-none (a .slate .now) i (a .count) (omega arith)) (v .3) in
+    reply-taken (a .b) (a .slate .now) (a .count) (a .start) (a .end) (a .category) (c .before .loop .board) (c .before .before .before .before .refusal-of .result) (c .before .before .before .before .refusal-of .ensures (a .b) (c .before .before .before .before .before .places-of .ensures .0) (λ v. ((λ n m. c .before .before .before .before .before .places-of .ensures .1 n m v), λ i m. c .before .before .before .before .before .places-of .ensures .2 i m v))) (c .before .before .before .if1 .left) whole
 
 pub commit-spec : {M : Type 1} → statement M
 commit-spec =
     tie.close
     (tie.spec
+    Inv-loop
+    μ-loop
     places-of-requires
+    refusal-of-requires
     returns
-    returns-2
-    returns-3
-    lines-refusal-requires
-    returns-4
-    book-all-requires
-    returns-5)
+    loop-holds
+    mul-row
+    shared-slice-copy-out-row
+    array-read-number
+    mul-place
+    array-read-place
+    mul-r
+    element-copy-out-r
+    array-read-book-on
+    cast-book-on
+    array-read-book-on-2
+    book-on-requires
+    mul-x
+    element-set-from-x
+    add-i
+    loop-less
+    loop-again
+    returns-2)
