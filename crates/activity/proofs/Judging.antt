@@ -9,7 +9,7 @@ use lib.ListN.{getD, length, take}
 use lib.Seq.{getD-take}
 use borrow.Author.Tests.{lt-ltb, le-ltb, le-leb, lt-leb, leb-true, ltb-false, not-false}
 use Rattle.calendar.specs.Valid.{valid}
-use Rattle.calendar.specs.Basics.{and-split, and-join, and-false, unrefused}
+use Rattle.calendar.specs.Basics.{and-split, and-join, and-false, or-left, or-right, unrefused}
 use Rattle.activity.specs.declared.ActivityDuration.{ActivityDuration}
 use Rattle.activity.specs.declared.ResourceTiming.{ResourceTiming}
 use Rattle.activity.specs.declared.ResourceTiming.the-variants.{Nothing, Speed, Duration}
@@ -83,11 +83,6 @@ module _ (a : Activity) (ready : ℕ) where
           unfolding activityRefusal
           not-refused u e = sym (rw (le-ltb 15 (a .category) g, t, le-ltb 4 (a .len) l, q, u, e) refl)
 
-neither : (a b : Bool) → a || not b ≡ false → (a ≡ false) × (b ≡ true)
-neither true b e = (e, absurd (let z : _≡_ {A = ℕ} 0 1 = cc in omega arith))
-neither false true e = (refl, refl)
-neither false false e = (refl, sym e)
-
 pub short-says : (d : ActivityDuration) → short d ≡ true → Short d
 unfolding short
 short-says d e =
@@ -145,8 +140,8 @@ module _ (a : Activity) (ready : ℕ) (e : activityRefusal a ready ≡ 0) where
       let p6 = unrefused (ltb 4 (a .len) || not (quantitiesRight (requirementsOf a))) 5 c3 (p1 .1) in
       let p3 = unrefused (not (every usageRight (requirementsOf a))) 2 c8 (p6 .1) in
       let p8 = unrefused (not (allSpeeds a)) 7 0 (p3 .1) in
-      let n6 = neither (ltb 4 (a .len)) (quantitiesRight (requirementsOf a)) (p6 .0) in
-      record { category = p5 .0; times = not-false (timesRight a ready) (p1 .0); few = n6 .0; quantities = n6 .1; usages = not-false (every usageRight (requirementsOf a)) (p3 .0); speeds = not-false (allSpeeds a) (p8 .0) }
+      let q6 = or-right (ltb 4 (a .len)) (not (quantitiesRight (requirementsOf a))) (p6 .0) in
+      record { category = p5 .0; times = not-false (timesRight a ready) (p1 .0); few = or-left (ltb 4 (a .len)) (not (quantitiesRight (requirementsOf a))) (p6 .0); quantities = not-false (quantitiesRight (requirementsOf a)) q6; usages = not-false (every usageRight (requirementsOf a)) (p3 .0); speeds = not-false (allSpeeds a) (p8 .0) }
 
   pub accepted : Accepted a ready
   unfolding timesRight quantitiesRight

@@ -4,7 +4,7 @@ use mathlib.Core.Bool.{true, false, not, _&&_}
 use mathlib.Core.Logic.{⊎-elim}
 use mathlib.Core.Path.{_≡_, refl, sym, _∙_}
 use Prim.Native.Nat.{ℕ, suc, _+_, _-_, _≤_, _<_}
-use native.Mathlib.Nat.{eq-or-lt-of-le}
+use native.Mathlib.Numerals.{lt-of-le-of-ne}
 use native.Mathlib.Omega.{arith}
 use lib.Dec.{leb, ltb}
 use Rattle.calendar.specs.Basics.{and-split, and-join, lt-or-ge}
@@ -107,8 +107,5 @@ pub same-side : (a m : ℕ) → (m ≡ a → ⊥) → ltb a (suc m) ≡ ltb a m
 same-side a m ne =
     ⊎-elim
     (λ (l : a < m). lt-ltb a (suc m) (omega arith) ∙ sym (lt-ltb a m l))
-    (λ (l : m ≤ a). le-ltb a (suc m) (past l) ∙ sym (le-ltb a m l))
+    (λ (l : m ≤ a). le-ltb a (suc m) (lt-of-le-of-ne l ne) ∙ sym (le-ltb a m l))
     (lt-or-ge a m)
-  where
-    past : m ≤ a → suc m ≤ a
-    past l = ⊎-elim (λ (e : m ≡ a). absurd (ne e)) (λ (h : m < a). h) (eq-or-lt-of-le l)

@@ -1,10 +1,13 @@
--- Small facts on tests and numbers, with the library's laws of && and || passed on.
-use mathlib.Core.Path.{_≡_, refl, sym}
+-- Small facts on tests, numbers and the cells of an array, with the library's laws of && and || passed on.
+use mathlib.Core.Path.{_≡_, refl, sym, _∙_}
 use mathlib.Core.Bool.{Bool, true, false, _&&_, _||_, cond}
 pub use mathlib.Core.Bool.{and-assoc, and-true, and-false, or-true, or-false, or-assoc}
-use mathlib.Core.Logic.{_⊎_, inl, inr}
-use Prim.Native.Nat.{ℕ, suc, _≤_, _<_}
+use mathlib.Core.List.{List}
+use mathlib.Core.Logic.{_⊎_, inl, inr, ⊎-elim}
+use Prim.Native.Nat.{ℕ, suc, _+_, _≤_, _<_}
 use native.Mathlib.Omega.{arith}
+use lib.ListN.{length, getD, set}
+use lib.Seq.{getD-set-same, getD-set-other}
 use lib.Dec.{ltb, eqb}
 use borrow.Author.Tests.{ltb-true, ltb-false, eqb-true, eqb-false}
 
@@ -17,6 +20,14 @@ and-join a b p q = rw (p, q) refl
 
 pub not-both : (b : Bool) → b ≡ true → b ≡ false → ⊥
 not-both b p q = let z : _≡_ {A = ℕ} 0 1 = cc in omega arith
+
+pub or-left : (p q : Bool) → p || q ≡ false → p ≡ false
+or-left true q e = e
+or-left false q e = refl
+
+pub or-right : (p q : Bool) → p || q ≡ false → q ≡ false
+or-right true q e = absurd (not-both true refl e)
+or-right false q e = e
 
 pub no-way : (b : Bool) → (b ≡ true → ⊥) → b ≡ false
 no-way true f = absurd (f refl)
@@ -40,3 +51,12 @@ same-or-not a b = go (eqb a b) refl
 pub unrefused : (p : Bool) (n m : ℕ) → cond p (suc n) m ≡ 0 → (p ≡ false) × (m ≡ 0)
 unrefused true n m e = absurd (omega arith)
 unrefused false n m e = (refl, e)
+
+-- filled cell by cell
+pub filled-next : {A : Type 0} (f : ℕ → A) (xs : List A) (i : ℕ) (v d : A) → i < length xs → ((k : ℕ) → k < i → getD xs k d ≡ f k) → v ≡ f i
+    → (k : ℕ) → k < i + 1 → getD (set xs i v) k d ≡ f k
+filled-next f xs i v d l h e k m =
+    ⊎-elim
+    (λ (z : i ≡ k). rw (← z) (getD-set-same xs i v d l ∙ e))
+    (λ (z : k ≡ i → ⊥). getD-set-other xs i k v d z ∙ h k (omega (arith, z)))
+    (same-or-not i k)

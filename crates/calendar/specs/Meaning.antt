@@ -9,6 +9,7 @@ use mathlib.Core.List.{List, [], _∷_, _++_}
 use native.Mathlib.Numerals.{add-one}
 use lib.ListN.{getD, length}
 use lib.Seq.{getD-set-same, getD-set-other}
+use borrow.Author.Tests.{not-true}
 use Rattle.calendar.specs.declared.TimeWindows.{TimeWindows}
 use Rattle.calendar.specs.declared.Calendar.{Calendar}
 use Rattle.calendar.specs.Basics.{and-split, lt-or-ge, same-or-not, not-both}
@@ -286,17 +287,13 @@ module _ (P Q : Span → Bool) (w b : TimeWindows) where
   open-says : openFor P (spans w) && not (any Q (spans b)) ≡ true → ((w .len ≡ 0) ⊎ ((k : ℕ) × (k < w .len) × (P (spanAt w k) ≡ true))) × ((k : ℕ) → k < b .len → Q (spanAt b k) ≡ false)
   open-says t =
       let h = and-split (openFor P (spans w)) (not (any Q (spans b))) t in
-      let none = any-none Q b (b .len) (not-is (any Q (spans b)) (h .1)) in (
+      let none = any-none Q b (b .len) (not-true (any Q (spans b)) (h .1)) in (
         ⊎-elim
             (λ (z : w .len ≡ 0). inl z)
             (λ (z : 0 ≡ w .len → ⊥). inr (any-some P w (w .len) (sym (open-some P w (λ e. z (sym e))) ∙ h .0)))
             (same-or-not (w .len) 0),
         none,
       )
-    where
-      not-is : (x : Bool) → not x ≡ true → x ≡ false
-      not-is true e = sym e
-      not-is false e = refl
 
   says-open : (w .len ≡ 0) ⊎ ((k : ℕ) × (k < w .len) × (P (spanAt w k) ≡ true)) → ((k : ℕ) → k < b .len → Q (spanAt b k) ≡ false) → openFor P (spans w) && not (any Q (spans b)) ≡ true
   says-open (inl z) f = sym (open-by-none P Q w b (none-any Q b (b .len) f) z)

@@ -1,24 +1,15 @@
--- The first cells of an array as a list.
+-- The first cells of an array as a list; an array filled cell by cell, passed on.
 use mathlib.Core.Path.{_≡_, refl, sym, ap, _∙_}
 use mathlib.Core.Bool.{Bool, true, false, _&&_}
 use mathlib.Core.List.{List, [], _∷_, _++_, map, append-assoc}
-use mathlib.Core.Logic.{⊎-elim}
 use Prim.Native.Nat.{ℕ, zero, suc, _+_, _-_, _≤_, _<_}
 use native.Mathlib.Omega.{arith}
 use lib.ListN.{length, getD, set, take, drop}
-use lib.Seq.{take-suc, take-suc-set, take-add, getD-set-same, getD-set-other}
-use Rattle.calendar.specs.Basics.{and-false, and-assoc, same-or-not}
+use lib.Seq.{take-suc, take-suc-set, take-add}
+use Rattle.calendar.specs.Basics.{and-false, and-assoc}
+pub use Rattle.calendar.specs.Basics.{filled-next}
 use Rattle.activity.specs.Check.{every}
 use Rattle.scheduler.specs.Lists.{Each, each-end, each-on}
-
--- filled cell by cell
-pub filled-next : {A : Type 0} (f : ℕ → A) (xs : List A) (i : ℕ) (v d : A) → i < length xs → ((k : ℕ) → k < i → getD xs k d ≡ f k) → v ≡ f i
-    → (k : ℕ) → k < i + 1 → getD (set xs i v) k d ≡ f k
-filled-next f xs i v d l h e k m =
-    ⊎-elim
-    (λ (z : i ≡ k). rw (← z) (getD-set-same xs i v d l ∙ e))
-    (λ (z : k ≡ i → ⊥). getD-set-other xs i k v d z ∙ h k (omega (arith, z)))
-    (same-or-not i k)
 
 module _ {A B : Type 0} (f : A → B) where
   -- cell by cell the image of another array

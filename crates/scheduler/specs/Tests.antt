@@ -1,16 +1,8 @@
--- Small facts on tests.
+-- Small facts on tests, with those on || of the calendar passed on.
 use mathlib.Core.Path.{_≡_, refl, sym}
 use mathlib.Core.Bool.{Bool, true, false, _||_}
 use mathlib.Core.Logic.{_⊎_, inl, inr}
-use Rattle.calendar.specs.Basics.{not-both}
-
-pub or-left : (p q : Bool) → p || q ≡ false → p ≡ false
-or-left true q e = e
-or-left false q e = refl
-
-pub or-right : (p q : Bool) → p || q ≡ false → q ≡ false
-or-right true q e = absurd (not-both true refl e)
-or-right false q e = e
+pub use Rattle.calendar.specs.Basics.{or-left, or-right}
 
 pub or-in-left : (p q : Bool) → p ≡ true → p || q ≡ true
 or-in-left p q e = rw e refl

@@ -4,7 +4,7 @@ use mathlib.Core.Bool.{Bool, true, false, cond}
 use mathlib.Core.List.{List, [], _∷_, _++_, map}
 use Prim.Native.Nat.{ℕ, zero, suc, _+_, _-_, _^_, _≤_, _<_, max}
 use native.Mathlib.Omega.{arith}
-use lib.ListN.{getD, length, replicate, take, length-map, List·getD-eq-default}
+use lib.ListN.{getD, length, replicate, take, length-map, List·getD-eq-default, List·getD-map}
 use lib.Seq.{take-all, take-suc}
 use lib.Dec.{leb}
 use borrow.Author.Tests.{leb-true, leb-false}
@@ -70,19 +70,14 @@ unfolding before beforeFrom
 before-cell xs n zero = refl
 before-cell xs n (suc i) = pad-at xs n i
 
-field : (f : Booking → ℕ) (bs : List Booking) (i : ℕ) → f none ≡ 0 → getD (map f bs) i 0 ≡ f (getD bs i none)
-field f [] i e = sym e
-field f (b ∷ bs) zero e = refl
-field f (b ∷ bs) (suc i) e = field f bs i e
-
 rows : (bs : List Booking) (n : ℕ) → n ≤ length bs → bookingsTo (cells (starts bs)) (cells (ends bs)) (cells (unitsOf bs)) n ≡ take n bs
 unfolding bookingsTo
 rows bs zero l = refl
 rows bs (suc n) l =
     let k = 64 - length (starts bs) in
-    let s = pad-at (starts bs) (64 - length (starts bs)) n ∙ field (λ b. b .start) bs n refl in
-    let e = pad-at (ends bs) (64 - length (ends bs)) n ∙ field (λ b. b .end) bs n refl in
-    let u = pad-at (unitsOf bs) (64 - length (unitsOf bs)) n ∙ field (λ b. b .units) bs n refl in
+    let s = pad-at (starts bs) (64 - length (starts bs)) n ∙ List·getD-map (λ b. b .start) bs n none in
+    let e = pad-at (ends bs) (64 - length (ends bs)) n ∙ List·getD-map (λ b. b .end) bs n none in
+    let u = pad-at (unitsOf bs) (64 - length (unitsOf bs)) n ∙ List·getD-map (λ b. b .units) bs n none in
     rw (rows bs n (omega arith), s, e, u) (sym (take-suc bs n none l))
 
 -- the bookings of the diary are the list
@@ -159,7 +154,7 @@ bookings-order t v = by-index (bookings t) 0 one
         let h : suc i < t .len = rw (count t) at l in
         let k : i < t .len = omega arith in
         let f = rules t v .filled (suc i) h in
-        let e : getD (starts (bookings t)) i 0 ≡ getD (t .starts) i 0 = field (λ b. b .start) (bookings t) i refl ∙ ap (λ (b : Booking). b .start) (booking-at t i k) in
+        let e : getD (starts (bookings t)) i 0 ≡ getD (t .starts) i 0 = List·getD-map (λ b. b .start) (bookings t) i none ∙ ap (λ (b : Booking). b .start) (booking-at t i k) in
         rw (booking-at t (suc i) h, e) (record { order = f .order; range = f .range; some = f .some; few = f .few; sorted = f .sorted })
 
 -- booking keeps a diary that keeps the rules

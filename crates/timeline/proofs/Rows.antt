@@ -8,7 +8,7 @@ use native.Mathlib.Nat.{eq-or-lt-of-le, mul-le-mul}
 use native.Mathlib.Numerals.{add-one}
 use native.Mathlib.Omega.{arith}
 use lib.ListN.{getD, length, take, drop, replicate, length-append, length-replicate, length-map, List·getD-map, List·getD-append, List·getD-eq-default}
-use lib.Seq.{getD-at, ext-getD}
+use lib.Seq.{getD-at, ext-getD, length-take-le}
 use borrow.Author.Tests.{le-leb, lt-leb}
 use Rattle.calendar.specs.declared.Calendar.{Calendar}
 use Rattle.calendar.specs.Basics.{lt-or-ge}
@@ -91,11 +91,6 @@ put-low (suc at) b [] h k l = absurd (omega arith)
 put-low (suc at) b (x ∷ xs) h zero l = refl
 put-low (suc at) b (x ∷ xs) h (suc k) l = put-low at b xs (omega arith) k (omega arith)
 
-put-here : (at : ℕ) (b : Booking) (bs : List Booking) → at ≤ length bs → getD (putAt at b bs) at none ≡ b
-put-here zero b bs h = refl
-put-here (suc at) b [] h = absurd (omega arith)
-put-here (suc at) b (x ∷ xs) h = put-here at b xs (omega arith)
-
 put-high : (at : ℕ) (b : Booking) (bs : List Booking) → at ≤ length bs → (k : ℕ) → at ≤ k
     → getD (putAt at b bs) (suc k) none ≡ getD bs k none
 put-high zero b bs h k l = refl
@@ -157,7 +152,7 @@ module _ (t r : ResourceTimeline) (s e u at : ℕ) (p : Put t r s e u at) where
       each k h =
           by-order k at
           (λ l. booking-at r k h ∙ row-low k l ∙ sym (booking-at t k (omega (arith, p .place .in-range))) ∙ sym (put-low at b (bookings t) within k l))
-          (λ q. rw q (booking-at r at (rw q at h) ∙ row-here ∙ sym (put-here at b (bookings t) within)))
+          (λ q. rw q (booking-at r at (rw q at h) ∙ row-here ∙ sym (getD-at (take at (bookings t)) b (drop at (bookings t)) none at (length-take-le at (bookings t) within))))
           (λ l.
           let j = k - 1 in
           let q : k ≡ suc j = omega arith in
@@ -331,25 +326,25 @@ canon t g rs = λ i. record {
   booked = rs .sum i;
 }
   where
-    field-at : (f : Booking → ℕ) → f none ≡ 0 → (k : ℕ) → k < t .len → getD (map f (bookings t)) k 0 ≡ f (rowAt t k)
-    field-at f z k h = ap (λ (q : ℕ). getD (map f (bookings t)) k q) (sym z) ∙ List·getD-map f (bookings t) k none ∙ ap f (booking-at t k h)
+    field-at : (f : Booking → ℕ) (k : ℕ) → k < t .len → getD (map f (bookings t)) k (f none) ≡ f (rowAt t k)
+    field-at f k h = List·getD-map f (bookings t) k none ∙ ap f (booking-at t k h)
 
     a : t .starts ≡ cells (map (λ q. q .start) (bookings t))
     a =
         column (t .starts) (map (λ q. q .start) (bookings t)) (t .len) (g .starts) (rs .room) (length-map (bookings t) (λ q. q .start) ∙ count t)
-        (λ k h. sym (field-at (λ q. q .start) refl k h))
+        (λ k h. sym (field-at (λ q. q .start) k h))
         (λ k h l. rs .empty k h l .starts0)
 
     b′ : t .ends ≡ cells (map (λ q. q .end) (bookings t))
     b′ =
         column (t .ends) (map (λ q. q .end) (bookings t)) (t .len) (g .ends) (rs .room) (length-map (bookings t) (λ q. q .end) ∙ count t)
-        (λ k h. sym (field-at (λ q. q .end) refl k h))
+        (λ k h. sym (field-at (λ q. q .end) k h))
         (λ k h l. rs .empty k h l .ends0)
 
     c′ : t .units ≡ cells (map (λ q. q .units) (bookings t))
     c′ =
         column (t .units) (map (λ q. q .units) (bookings t)) (t .len) (g .units) (rs .room) (length-map (bookings t) (λ q. q .units) ∙ count t)
-        (λ k h. sym (field-at (λ q. q .units) refl k h))
+        (λ k h. sym (field-at (λ q. q .units) k h))
         (λ k h l. rs .empty k h l .units0)
 
     d : t .latest ≡ cells (latestEnds 0 (bookings t))

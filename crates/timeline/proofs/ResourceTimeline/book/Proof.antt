@@ -2,20 +2,16 @@
 use borrow.Author.Needs.{needs}
 use borrow.Author.Tests.{not-false, ltb-false, leb-false}
 use mathlib.Core.Path.{_≡_, refl, sym, _∙_}
-use mathlib.Core.Bool.{Bool, true, false, not, _||_}
+use mathlib.Core.Bool.{true, not, _||_}
 use Prim.Native.Nat.{ℕ, zero, suc, _^_, _≤_, _<_}
 use native.Mathlib.Omega.{arith}
 use lib.Dec.{leb, ltb}
-use Rattle.calendar.specs.Basics.{unrefused}
+use Rattle.calendar.specs.Basics.{or-left, or-right, unrefused}
 use Rattle.timeline.specs.declared.ResourceTimeline.{ResourceTimeline}
 use Rattle.timeline.specs.Valid.{valid}
 use Rattle.timeline.specs.Book.{bookRefusal, taken, bookReply}
 use Rattle.timeline.proofs.ResourceTimeline.book.Statement.{statement}
 use Rattle.timeline.proofs.ResourceTimeline.book.Tie as tie
-
-neither : (p q : Bool) → p || q ≡ false → (p ≡ false) × (q ≡ false)
-neither true q e = (e, let z : _≡_ {A = ℕ} 0 1 = cc in absurd (omega arith))
-neither false q e = (refl, e)
 
 -- what no refusal says of a booking
 record Bookable (t : ResourceTimeline) (s e u : ℕ) : Type 0 where
@@ -38,9 +34,9 @@ bookable t s e u z =
       keeps = not-false _ (x0 .0);
       room = leb-false 64 (t .len) (x4 .0);
       order = leb-false e s (x2 .0);
-      range = ltb-false (2 ^ 42) e (neither (ltb (2 ^ 42) s) (ltb (2 ^ 42) e) (x1 .0) .1);
-      some = ltb-false u 1 (neither (ltb u 1) (ltb 10000 u) (x3 .0) .0);
-      few = ltb-false 10000 u (neither (ltb u 1) (ltb 10000 u) (x3 .0) .1);
+      range = ltb-false (2 ^ 42) e (or-right (ltb (2 ^ 42) s) (ltb (2 ^ 42) e) (x1 .0));
+      some = ltb-false u 1 (or-left (ltb u 1) (ltb 10000 u) (x3 .0));
+      few = ltb-false 10000 u (or-right (ltb u 1) (ltb 10000 u) (x3 .0));
     }
 
 refused : (n : ℕ) (t more : ResourceTimeline) → (n ≡ 0 → ⊥) → record { refusal = n; timeline = t } ≡ taken n t more
