@@ -20,7 +20,7 @@ use Rattle.scheduler.specs.Alone.{oneUnit, diaryOf, resourceIn, companionsOf, w
 use Rattle.scheduler.specs.Shares.{sharesTo, Wanted}
 use Rattle.scheduler.specs.Arrays.{take-next, every-append, every-off}
 use Rattle.alone.specs.declared.Members.{Members}
-use Rattle.alone.specs.Plans.{Known, Seated}
+use Rattle.alone.specs.Seats.{Known, Seated}
 use Rattle.scheduler.specs.Alone.{startWith}
 use Rattle.alone.proofs.Knowing.{place-on, place-none}
 

@@ -1,2 +1,2 @@
--- What the code keeps of each resource alone.
-pub mod Plans
+-- The places that the code keeps.
+pub mod Seats

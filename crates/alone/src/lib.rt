@@ -14,7 +14,7 @@ ghost use Rattle.calendar.specs.Search.{nothing};
 ghost use Rattle.board.specs.declared.Board as declared;
 ghost use Rattle.scheduler.specs.Alone.{earliestOf};
 ghost use Rattle.scheduler.specs.Shares.{sharesTo, Wanted};
-ghost use Rattle.alone.specs.Plans.{Known, Seated};
+ghost use Rattle.alone.specs.Seats.{Known, Seated};
 
 // The places of a resource and its companions, in this order; `right` says that every companion is on the board. The cells past them
 // hold some place on the board.

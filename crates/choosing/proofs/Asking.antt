@@ -23,7 +23,7 @@ use Rattle.scheduler.specs.Shares.{sharesTo}
 use Rattle.plans.specs.declared.Plan.{Plan}
 use Rattle.plans.specs.Plans.{noPlan, planWith, planOf, Planned}
 use Rattle.alone.specs.declared.Members.{Members}
-use Rattle.alone.specs.Plans.{Seated}
+use Rattle.alone.specs.Seats.{Seated}
 use Rattle.alone.proofs.Seating.{diariesAt, seated-start}
 use Rattle.answering.specs.Tables.{foundAt}
 use Rattle.answering.proofs.Finding.{span-range, arrival-range}

@@ -20,7 +20,7 @@ use Rattle.scheduler.specs.Alone.{Share, diaryOf, resourceIn}
 use Rattle.scheduler.specs.Fitting.{sharesOf}
 use Rattle.scheduler.specs.Shares.{sharesTo, Wanted}
 use Rattle.scheduler.specs.Owning.{ownShare, own-valid}
-use Rattle.alone.specs.Plans.{Known}
+use Rattle.alone.specs.Seats.{Known}
 use Rattle.alone.proofs.Knowing.{number-place}
 use Rattle.entries.specs.Parts.{noEntry}
 

@@ -10,7 +10,7 @@ use native.Mathlib.Omega.{arith}
 use lib.ListN.{length, length-set}
 use Rattle.board.specs.declared.Board.{Board}
 use Rattle.board.specs.Valid.{valid}
-use Rattle.alone.specs.Plans.{Known}
+use Rattle.alone.specs.Seats.{Known}
 use Rattle.alone.proofs.Seating.{Placed, placed-none, placed-on, placed-off}
 
 abbrev Inv-loop : tie.InvT-loop
