@@ -70,8 +70,8 @@ module _ (b : Board) (v : board.valid b ≡ true) (few : b .len ≤ 16) (a : Act
     abbrev x : ℕ
     x = numberOf f
 
-    pub through-asked : Through b a ready t (set starts k x) (k + 1)
-    through-asked = next (set starts k x) (λ y z m n q. getD-set-other starts k (16 * y + z) x 0 (λ (u : 16 * y + z ≡ k). omega arith) ∙ thru y z m n q) (λ n. getD-set-same starts k x 0 (omega (arith, kept .starts-long)) ∙ ap numberOf e)
+    pub through-asked : Through b a ready t (set starts k x) k
+    through-asked y z m n q = getD-set-other starts k (16 * y + z) x 0 (λ (u : 16 * y + z ≡ k). omega arith) ∙ thru y z m n q
 
     pub kept-asked : Kept b a ready (set asked k t) (set starts k x)
     kept-asked = record {

@@ -2,13 +2,9 @@
 // resources in `place_activity` in scheduler/simple.rs; 01, 'Choosing'). What was answered to requirement j by the resource at place i
 // stands in cell 16 j + i: asked from `asked` on, it can start at `start`, or not at all (2^63). From each instant between the two it
 // answers the same; before it is asked, there are none between.
-use calendar::limits::NEVER;
-use earliest::Start;
 ghost use mathlib.Core.Path.{_≡_};
 ghost use mathlib.Core.Bool.{_&&_, _||_};
 ghost use lib.Dec.{ltb};
-ghost use Rattle.earliest.specs.Steps.{startOf};
-ghost use Rattle.answering.specs.Tables.{numberOf};
 
 // The resource at this place is to be asked from t on: it is on the board, and what it answers is not known.
 pub fn is_asked(place: usize, len: usize, asked: u64, start: u64, t: u64) -> bool
@@ -21,14 +17,4 @@ pub fn is_asked(place: usize, len: usize, asked: u64, start: u64, t: u64) -> boo
         return true;
     }
     t > start
-}
-
-// A start as a number, 2^63 for none.
-pub fn number_of(s: Start) -> u64
-    ensures { λ r. ⌜ r ≡ numberOf (startOf s) ⌝ }
-{
-    match s {
-        Start::At(x) => x,
-        Start::Nothing => NEVER,
-    }
 }

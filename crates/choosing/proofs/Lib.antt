@@ -1,2 +1,3 @@
--- The proof of choosing.
-mod Asking
+-- The proofs of the choice.
+pub mod Asking
+pub mod Stepping

@@ -20,8 +20,8 @@ use Rattle.scheduler.specs.Arrays.{take-next}
 use Rattle.scheduler.specs.Committing.{Line, lineOf, linesOf, entriesOn}
 use Rattle.scheduler.specs.Ruled.{diary-at}
 use Rattle.scheduler.specs.Tests.{both-ways}
-use Rattle.alone.specs.Seats.{Known}
-use Rattle.alone.proofs.Knowing.{place-on, number-place}
+use Rattle.seats.specs.Seats.{Known}
+use Rattle.seats.proofs.Knowing.{place-on, number-place}
 use Rattle.commit_checks.specs.Lines.{numbered, metered, roomy, Counted, Lengths}
 
 -- the lines are the first rows, read one by one

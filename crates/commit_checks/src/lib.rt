@@ -9,7 +9,7 @@ ghost use Rattle.activity.specs.Check.{every};
 ghost use Rattle.board.specs.declared.Board as declared;
 ghost use Rattle.board.specs.Valid.{valid};
 ghost use Rattle.scheduler.specs.Committing.{linesOf, linesRefusal};
-ghost use Rattle.alone.specs.Seats.{Known};
+ghost use Rattle.seats.specs.Seats.{Known};
 ghost use Rattle.commit_checks.specs.Lines.{numbered, metered, roomy, Counted, Lengths};
 
 // Each of the first `count` rows names a resource on the board.

@@ -27,8 +27,8 @@ use Rattle.scheduler.specs.Committing.{Line, lineOf, linesOf, entriesOn, withBo
 use Rattle.scheduler.specs.Committed.{Bookable, Right, Room, step-long, lookup-after, after-keeps, right-after, room-after}
 use Rattle.scheduler.specs.Lists.{Each, each-on, each-map}
 use Rattle.scheduler.specs.Ruled.{diary-at}
-use Rattle.alone.specs.Seats.{Known}
-use Rattle.alone.proofs.Knowing.{number-place}
+use Rattle.seats.specs.Seats.{Known}
+use Rattle.seats.proofs.Knowing.{number-place}
 
 -- a booking that is not refused
 pub book-taken : (t : ResourceTimeline) (start end category u : ℕ) → timeline.valid t ≡ true → t .len < 64 → Bookable start end category → 1 ≤ u → u ≤ 10000

@@ -14,7 +14,7 @@ ghost use Rattle.board.specs.declared.Board as declared;
 ghost use Rattle.board.specs.Valid.{valid};
 ghost use Rattle.scheduler.specs.Committing.{booked, commitRefusal, commitReply};
 ghost use Rattle.scheduler.specs.Committed.{Bookable};
-ghost use Rattle.alone.specs.Seats.{Known};
+ghost use Rattle.seats.specs.Seats.{Known};
 ghost use Rattle.commit_checks.specs.Lines.{Lengths};
 
 // The resource with a booking more; one with a matrix takes the category, unless it is a companion.

@@ -18,28 +18,12 @@ use Rattle.board.proofs.Meaning.{resource-of}
 use Rattle.scheduler.specs.declared.Entry.{Entry}
 use Rattle.scheduler.specs.Alone.{Share, diaryOf, resourceIn}
 use Rattle.scheduler.specs.Fitting.{sharesOf}
-use Rattle.scheduler.specs.Shares.{sharesTo, Wanted}
+use Rattle.scheduler.specs.Shares.{sharesTo, timelinesOf, unitsOf, shares-whole, Wanted}
+use Rattle.scheduler.specs.Events.{eventsOf}
 use Rattle.scheduler.specs.Owning.{ownShare, own-valid}
-use Rattle.alone.specs.Seats.{Known}
-use Rattle.alone.proofs.Knowing.{number-place}
+use Rattle.seats.specs.Seats.{Known}
+use Rattle.seats.proofs.Knowing.{number-place}
 use Rattle.entries.specs.Parts.{noEntry}
-
-abbrev pub timelinesOf : List Share → List ResourceTimeline
-timelinesOf xs = map (λ x. x .timeline) xs
-
-abbrev pub unitsOf : List Share → List ℕ
-unitsOf xs = map (λ x. x .units) xs
-
--- a list of shares as two lists of cells, and back
-shares-front : (t : ResourceTimeline) (u : ℕ) (ts : List ResourceTimeline) (us : List ℕ) (n : ℕ) → sharesTo (t ∷ ts) (u ∷ us) (suc n) ≡ record { timeline = t; units = u } ∷ sharesTo ts us n
-unfolding sharesTo
-shares-front t u ts us zero = refl
-shares-front t u ts us (suc n) = rw (shares-front t u ts us n) refl
-
-shares-whole : (xs : List Share) → sharesTo (timelinesOf xs) (unitsOf xs) (length xs) ≡ xs
-unfolding sharesTo
-shares-whole [] = refl
-shares-whole (x ∷ xs) = shares-front (x .timeline) (x .units) (timelinesOf xs) (unitsOf xs) (length xs) ∙ ap (λ (ys : List Share). x ∷ ys) (shares-whole xs)
 
 shares-long : (b : Board) (n : ℕ) (es : List Entry) → n ≤ length es → length (sharesOf b (take n es)) ≡ n
 shares-long b zero es l = refl
@@ -76,6 +60,10 @@ module _ (b : Board) (es : List Entry) (n : ℕ) (first : ResourceTimeline) wher
 
   abbrev pub wants : List ℕ
   wants = unitsOf those
+
+  -- the instants at which something can first start on one of them
+  abbrev pub instants : List ℕ
+  instants = eventsOf those
 
   module _ (places : List ℕ) (a : Asks b es n places first) where
     pub asks-shares : (own : Calendar) → first ≡ ownShare own .timeline → sharesTo diaries wants (n + 1) ≡ ownShare own ∷ sharesOf b (take n es)

@@ -2,12 +2,13 @@
 use mathlib.Core.Path.{_≡_, refl, sym, ap, _∙_, subst}
 use mathlib.Core.Bool.{Bool, true, false, _&&_, cond}
 use mathlib.Core.List.{List, [], _∷_, _++_, map}
-use mathlib.Core.Logic.{⊎-elim}
-use Prim.Native.Nat.{ℕ, suc, _+_, _-_, _*_, _^_, _≤_, _<_}
+use mathlib.Core.Logic.{_⊎_, inl, inr, ⊎-elim}
+use Prim.Native.Nat.{ℕ, zero, suc, _+_, _-_, _*_, _^_, _≤_, _<_}
 use native.Mathlib.Omega.{arith}
 use lib.ListN.{length, getD, set, take, length-set}
 use lib.Seq.{getD-set-same, getD-set-other}
-use lib.Dec.{leb}
+use lib.Dec.{leb, ltb, eqb}
+use borrow.Author.Tests.{lt-ltb, ltb-true, eq-eqb}
 use Rattle.calendar.specs.declared.Calendar.{Calendar}
 use Rattle.calendar.specs.Basics.{not-both, same-or-not}
 use Rattle.calendar.specs.Search.{Found, nothing, at}
@@ -24,8 +25,12 @@ use Rattle.timeline.proofs.Searching.{Sought, sought-start}
 use Rattle.timeline.proofs.Stepping.{Still}
 use Rattle.board.specs.Resources.{noDiary}
 use Rattle.scheduler.specs.Alone.{Share}
-use Rattle.scheduler.specs.Fitting.{calendarOf, allFree}
-use Rattle.scheduler.specs.Shares.{shareAt, sharesTo, Wanted}
+use Rattle.scheduler.specs.Fitting.{among, calendarOf, allFree}
+use Rattle.scheduler.specs.Shares.{shareAt, sharesTo, timelinesOf, Wanted}
+use Rattle.scheduler.specs.Tests.{or-in-left, or-in-right}
+use Rattle.scheduler.specs.Events.{events, eventsOf, among-append, above, above-falls}
+use Rattle.scheduler.specs.Asking.{event-among}
+use Rattle.candidates.specs.Steps.{Listed, Event}
 use Rattle.scheduler.specs.Latest.{wanted-sound}
 use Rattle.scheduler.specs.Together.{Calm}
 use Rattle.scheduler.specs.Owning.{suitsOn}
@@ -70,7 +75,7 @@ end-more xs x s e free (at d) h = go free (allFree xs s d) refl h
     go false true k j = absurd (not-both true refl (sym (ap isAt j)))
     go false false k j = rw (free-more xs x s d, k) refl
 
-module _ (ts : List ResourceTimeline) (us : List ℕ) (n work from : ℕ) where
+module _ (ts : List ResourceTimeline) (us : List ℕ) (n work from : ℕ) (stops : List ℕ) where
   abbrev pub all : List Share
   all = sharesTo ts us n
 
@@ -81,6 +86,7 @@ module _ (ts : List ResourceTimeline) (us : List ℕ) (n work from : ℕ) where
   pub record Tried (here end : ℕ) (free : Bool) (next i : ℕ) : Type 0 where
     pub ends : endIf free end ≡ endFree (sharesTo ts us i) here (end-from here)
     pub later : here < next
+    pub listed : (next ≡ 2 ^ 63) ⊎ (among next stops ≡ true)
     pub most : next ≤ 2 ^ 63
     pub calm : (y : ℕ) → here ≤ y → suc y < next → Calm (suc y) (sharesTo ts us i)
 
@@ -130,15 +136,16 @@ module _ (ts : List ResourceTimeline) (us : List ℕ) (n work from : ℕ) where
       tried = λ l. record {
         ends = e l ∙ layout-end (map calendarOf all) from edges len here work y (s .low) ∙ end-none-asked here (end-from here);
         later = l;
+        listed = inl refl;
         most = omega arith;
         calm = λ z a b. calm-none ts us (suc z);
       };
     }
 
     -- one diary more asked
-    pub walks-next : (edges : List ℕ) (len here end : ℕ) (free : Bool) (next i : ℕ) → Walks edges len here end free next i → here < 2 ^ 63 → (later : ℕ) → here < later → later ≤ next
+    pub walks-next : (edges : List ℕ) (len here end : ℕ) (free : Bool) (next i : ℕ) → Walks edges len here end free next i → here < 2 ^ 63 → (later : ℕ) → here < later → later ≤ next → (later ≡ next) ⊎ (among later stops ≡ true)
         → ((y : ℕ) → here ≤ y → suc y < later → Still (getD ts i noDiary) (suc y)) → Walks edges len here end (free && freeOn (getD ts i noDiary) (getD us i 0) here end) later (i + 1)
-    walks-next edges len here end free next i w l later a b still =
+    walks-next edges len here end free next i w l later a b on still =
         let t = w .tried l in
         record {
           short = w .short;
@@ -147,6 +154,7 @@ module _ (ts : List ResourceTimeline) (us : List ℕ) (n work from : ℕ) where
           tried = λ m. record {
             ends = end-more (sharesTo ts us i) (shareAt ts us i) here end free (end-from here) (t .ends) ∙ ap (λ (xs : List Share). endFree xs here (end-from here)) (sym (shares-next ts us i));
             later = a;
+            listed = ⊎-elim (λ (z : later ≡ next). rw z (t .listed)) inr on;
             most = omega (arith, t .most);
             calm = λ y p q. calm-on ts us i (suc y) (t .calm y p (omega arith)) (still y p q);
           };
@@ -201,14 +209,14 @@ module _ (ts : List ResourceTimeline) (us : List ℕ) (n work from : ℕ) where
     }
 
     pub state-asked : Wanted ts us n → laid ≡ true → here < 2 ^ 63 → (x y : ℕ) (p : Bool) (z : ℕ) (q : Bool) (d : ResourceTimeline) (u : ℕ) → d ≡ getD ts i noDiary → u ≡ getD us i 0 → x ≡ here → y ≡ end → q ≡ laid
-        → p ≡ free && freeOn d u here end → here < z → z ≤ next → ((t : ℕ) → here ≤ t → suc t < z → Still d (suc t)) → State cs edges len x y p z q (i + 1)
-    state-asked wanted e h x y p z q d u a b ex ey eq ep m k still = record {
+        → p ≡ free && freeOn d u here end → here < z → z ≤ next → (z ≡ next) ⊎ (among z stops ≡ true) → ((t : ℕ) → here ≤ t → suc t < z → Still d (suc t)) → State cs edges len x y p z q (i + 1)
+    state-asked wanted e h x y p z q d u a b ex ey eq ep m k on still = record {
       few = omega arith;
       cells = s .cells;
       wide = s .wide;
       most = omega (arith, s .most);
       gathers = λ f. absurd (not-both laid e (sym eq ∙ f));
-      walks = λ f. rw (ex, ey, ep, a, b) (walks-next wanted edges len here end free next i (s .walks e) h z m k (λ t g j. subst (λ (r : ResourceTimeline). Still r (suc t)) a (still t g j)));
+      walks = λ f. rw (ex, ey, ep, a, b) (walks-next wanted edges len here end free next i (s .walks e) h z m k on (λ t g j. subst (λ (r : ResourceTimeline). Still r (suc t)) a (still t g j)));
     }
 
   -- what is laid out, and where the next trial begins
@@ -271,15 +279,55 @@ module _ (ts : List ResourceTimeline) (us : List ℕ) (n work from : ℕ) where
     walks = λ f. rw (ex, ez) (walks-begin wanted edges len next y p (o .short) (o .layout) (o .sought) ends);
   }
 
+-- the instants left, the one at hand with them
+unfoldable pub remaining : List ℕ → ℕ → ℕ
+remaining stops here = cond (ltb here (2 ^ 63)) (1 + above stops here) 0
+
+remaining-falls : (stops : List ℕ) (here x : ℕ) → here < x → x ≤ 2 ^ 63 → (x ≡ 2 ^ 63) ⊎ (among x stops ≡ true) → remaining stops x < remaining stops here
+unfolding remaining
+remaining-falls stops here x l m on = rw (lt-ltb here (2 ^ 63) (omega arith)) (go (ltb x (2 ^ 63)) refl)
+  where
+    go : (q : Bool) → ltb x (2 ^ 63) ≡ q → cond q (1 + above stops x) 0 < 1 + above stops here
+    go true e = omega (arith, above-falls stops here x l (⊎-elim (λ (z : x ≡ 2 ^ 63). absurd (omega (arith, ltb-true x (2 ^ 63) e))) (λ (z : among x stops ≡ true). z) on))
+    go false e = omega arith
+
 -- what is left of the walk falls
-abbrev pub left : ℕ → Bool → ℕ → ℕ → ℕ
-left here laid n i = (2 ^ 63 - here) * 64 + cond laid 0 32 + (n - i)
+abbrev pub left : List ℕ → ℕ → Bool → ℕ → ℕ → ℕ
+left stops here laid n i = remaining stops here * 64 + cond laid 0 32 + (n - i)
 
-pub left-asked : (x here : ℕ) (q laid : Bool) (n i : ℕ) → x ≡ here → q ≡ laid → i < n → left x q n (i + 1) < left here laid n i
-left-asked x here q laid n i a b l = rw (a, b) (omega arith)
+module _ (stops : List ℕ) where
+  pub left-asked : (x here : ℕ) (q laid : Bool) (n i : ℕ) → x ≡ here → q ≡ laid → i < n → left stops x q n (i + 1) < left stops here laid n i
+  left-asked x here q laid n i a b l = rw (a, b) (omega arith)
 
-pub left-laid : (x here : ℕ) (q laid : Bool) (n i : ℕ) → x ≡ here → q ≡ true → laid ≡ false → n ≤ 25 → left x q n 0 < left here laid n i
-left-laid x here q laid n i a b c l = rw (a, b, c) (omega arith)
+  pub left-laid : (x here : ℕ) (q laid : Bool) (n i : ℕ) → x ≡ here → q ≡ true → laid ≡ false → n ≤ 25 → left stops x q n 0 < left stops here laid n i
+  left-laid x here q laid n i a b c l = rw (a, b, c) (omega arith)
 
-pub left-on : (x here : ℕ) (q laid : Bool) (n i : ℕ) → here < x → x ≤ 2 ^ 63 → q ≡ true → laid ≡ true → n ≤ 25 → left x q n 0 < left here laid n i
-left-on x here q laid n i a m b c l = rw (b, c) (omega arith)
+  pub left-on : (x here : ℕ) (q laid : Bool) (n i : ℕ) → here < x → x ≤ 2 ^ 63 → (x ≡ 2 ^ 63) ⊎ (among x stops ≡ true) → q ≡ true → laid ≡ true → n ≤ 25 → left stops x q n 0 < left stops here laid n i
+  left-on x here q laid n i a m on b c l = rw (b, c) (omega (arith, remaining-falls stops here x a m on))
+
+-- an event on the i-th diary is one of all
+listed-in : (xs : List ℕ) (n y : ℕ) → 1 ≤ y → Listed xs n y → among y (take n xs) ≡ true
+unfolding among
+listed-in [] n y l w = absurd (omega (arith, w .2))
+listed-in (x ∷ xs) zero y l w = absurd (omega (arith, w .1))
+listed-in (x ∷ xs) (suc n) y l (zero, m, e) = or-in-left (eqb x y) (among y (take n xs)) (eq-eqb x y e)
+listed-in (x ∷ xs) (suc n) y l (suc k, m, e) = or-in-right (eqb x y) (among y (take n xs)) (listed-in xs n y l (k, omega arith, e))
+
+pub event-stop : (xs : List Share) (i x : ℕ) (d : ResourceTimeline) → d ≡ getD (timelinesOf xs) i noDiary → 1 ≤ x → Event d x → among x (eventsOf xs) ≡ true
+unfolding events
+event-stop xs i x d e l on = event-among xs i x (ap (λ (y : ResourceTimeline). among x (events y)) (sym e) ∙ among-append x W (B ++ C) ∙ ⊎-elim
+    (λ (z : Listed (d .calendar .windows .starts) (d .calendar .windows .len) x). or-in-left (among x W) (among x (B ++ C)) (listed-in (d .calendar .windows .starts) (d .calendar .windows .len) x l z))
+    (λ z. or-in-right (among x W) (among x (B ++ C)) (among-append x B C ∙ ⊎-elim
+    (λ (y : Listed (d .calendar .blocks .ends) (d .calendar .blocks .len) x). or-in-left (among x B) (among x C) (listed-in (d .calendar .blocks .ends) (d .calendar .blocks .len) x l y))
+    (λ (y : Listed (d .ends) (d .len) x). or-in-right (among x B) (among x C) (listed-in (d .ends) (d .len) x l y))
+    z))
+    on)
+  where
+    W : List ℕ
+    W = take (d .calendar .windows .len) (d .calendar .windows .starts)
+
+    B : List ℕ
+    B = take (d .calendar .blocks .len) (d .calendar .blocks .ends)
+
+    C : List ℕ
+    C = take (d .len) (d .ends)

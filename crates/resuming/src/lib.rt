@@ -10,6 +10,7 @@ use timeline::ResourceTimeline;
 ghost use mathlib.Core.Path.{_≡_};
 ghost use mathlib.Core.Bool.{true, false, _&&_, cond};
 ghost use mathlib.Core.List.{_∷_};
+ghost use mathlib.Core.Logic.{_⊎_};
 ghost use Prim.Native.Nat.{ℕ, suc, _^_, _≤_, _<_};
 ghost use lib.ListN.{length, getD, take};
 ghost use Rattle.calendar.specs.Search.{nothing, at};
@@ -19,11 +20,12 @@ ghost use Rattle.work_ends.specs.Layout.{Edges, laid, lastCell};
 ghost use Rattle.timeline.specs.Valid as timeline;
 ghost use Rattle.timeline.specs.Earliest.{freeOn};
 ghost use Rattle.timeline.proofs.Stepping.{Still};
+ghost use Rattle.candidates.specs.Steps.{Event};
 ghost use Rattle.board.specs.Resources.{onBoard};
 ghost use Rattle.board.specs.Valid.{valid};
 ghost use Rattle.scheduler.specs.Fitting.{sharesOf};
 ghost use Rattle.scheduler.specs.Owning.{ownShare};
-ghost use Rattle.alone.specs.Seats.{Known};
+ghost use Rattle.seats.specs.Seats.{Known};
 ghost use Rattle.entries.specs.Parts.{noEntry};
 ghost use Rattle.fitting.specs.Jointly.{fitOf, jointly, ended};
 
@@ -72,7 +74,7 @@ fn begun(edges: &[u64], len: usize, x: u64, work: u64) -> Trial
 fn asked(d: ResourceTimeline, units: u32, t: Trial) -> Trial
     requires { ⌜ (timeline.valid d ≡ true) × (t .at < t .next) × (t .next ≤ 2 ^ 63) ⌝ }
     ensures { λ r. ⌜ (r .at ≡ t .at) × (r .end ≡ t .end) × (r .laid ≡ t .laid) × (r .free ≡ t .free && freeOn d units (t .at) (t .end)) ⌝ }
-    ensures { λ r. ⌜ (t .at < r .next) × (r .next ≤ t .next) × ((y : ℕ) → t .at ≤ y → suc y < r .next → Still d (suc y)) ⌝ }
+    ensures { λ r. ⌜ (t .at < r .next) × (r .next ≤ t .next) × ((y : ℕ) → t .at ≤ y → suc y < r .next → Still d (suc y)) × ((r .next ≡ t .next) ⊎ Event d (r .next)) ⌝ }
 {
     let mut r = t;
     if t.free {

@@ -1,5 +1,5 @@
 -- The rounds: t becomes the greatest start held, until it stays.
-use mathlib.Core.Path.{_≡_, refl, ap, _∙_, subst}
+use mathlib.Core.Path.{_≡_, refl, sym, ap, _∙_, subst}
 use mathlib.Core.Bool.{true, false, cond}
 use mathlib.Core.List.{List, [], _∷_}
 use Prim.Native.Nat.{ℕ, suc, _+_, _-_, _^_, _≤_, _<_}
@@ -10,55 +10,64 @@ use lib.Dec.{eqb}
 use borrow.Author.Tests.{eq-eqb, ne-eqb}
 use Rattle.calendar.specs.Basics.{not-both}
 use Rattle.activity.specs.declared.Activity.{Activity}
-use Rattle.activity.specs.Check.{requirementsOf}
+use Rattle.activity.specs.Check.{requirementsOf, activityRefusal}
+use Rattle.activity.proofs.Judging.{accepted}
 use Rattle.board.specs.declared.Board.{Board}
+use Rattle.board.specs.Valid.{valid}
 use Rattle.scheduler.specs.declared.Hold.{Hold}
 use Rattle.scheduler.specs.Choosing as scheduler
 use Rattle.scheduler.specs.Holds.{noHold, heldTo, OnPlaces}
+use Rattle.scheduler.specs.Counting.{instants-few, instants-fall}
 use Rattle.scheduler.specs.Arrays.{each-at}
 use Rattle.scheduler.specs.Lists.{Each, each-end, each-on}
 use Rattle.rounds.specs.declared.Holding.{Holding}
 use Rattle.rounds.specs.declared.Rounds.{Rounds}
 use Rattle.rounds.specs.Named.{latestStart}
-use Rattle.rounds.specs.Rounds.{Led, roundOf, choiceOf, Lasting, Chosen, Settled}
+use Rattle.rounds.specs.Rounds.{Led, Fewer, roundOf, choiceOf, Lasting, Chosen, Settled}
 use Rattle.rounds.proofs.Behind.{latest-is}
 
-pub led-start : (b : Board) (a : Activity) (ready : ℕ) → Led b a ready 0 ready
+pub led-start : (b : Board) → valid b ≡ true → (a : Activity) (ready : ℕ) → Led b a ready ready
 unfolding scheduler.choosing
-led-start b a ready =
-    let z : 10000 - 0 ≡ 10000 = omega arith in
-    rw z refl
+led-start b v a ready = record { left = 10000; more = omega (arith, instants-few b v a ready ready); so = refl }
 
--- all rounds are done
-pub led-end : (b : Board) (a : Activity) (ready i t : ℕ) → 10000 ≤ i → Led b a ready i t → scheduler.noChoice ≡ scheduler.choosing b a ready
-unfolding scheduler.rounds
-led-end b a ready i t l k =
-    let z : 10000 - i ≡ 0 = omega arith in
-    rw z at k
+-- the round at t, and one fewer left
+module _ (b : Board) (a : Activity) (ready t : ℕ) (k : Led b a ready t) (h : Holding) (e : roundOf b h ≡ scheduler.round b a ready t (requirementsOf a)) where
+  abbrev rest : ℕ
+  rest = k .left - 1
 
-module _ (b : Board) (a : Activity) (ready i t : ℕ) (l : i < 10000) (k : Led b a ready i t) (h : Holding) (e : roundOf b h ≡ scheduler.round b a ready t (requirementsOf a)) where
-  turn : scheduler.settle t (roundOf b h) (scheduler.rounds (10000 - (i + 1)) b a ready) ≡ scheduler.choosing b a ready
+  turn : scheduler.settle t (roundOf b h) (scheduler.rounds rest b a ready) ≡ scheduler.choosing b a ready
   unfolding scheduler.rounds
   turn =
-      let z : 10000 - i ≡ suc (10000 - (i + 1)) = omega arith in
-      ap (λ (r : scheduler.Round). scheduler.settle t r (scheduler.rounds (10000 - (i + 1)) b a ready)) e ∙ (rw z at k)
+      let z : k .left ≡ suc rest = omega (arith, k .more) in
+      ap (λ (r : scheduler.Round). scheduler.settle t r (scheduler.rounds rest b a ready)) e ∙ (rw z at (k .so))
 
   -- too few
   pub led-short : h .enough ≡ false → scheduler.noChoice ≡ scheduler.choosing b a ready
   unfolding roundOf scheduler.settle
   led-short f = rw f at turn
 
-  held : h .enough ≡ true → cond (eqb (latestStart (take (h .count) (h .held))) t) (scheduler.chosen t (heldTo b (h .held) (h .count))) (scheduler.rounds (10000 - (i + 1)) b a ready (latestStart (take (h .count) (h .held)))) ≡ scheduler.choosing b a ready
-  unfolding roundOf scheduler.settle
-  held f = rw (latest-is b (take (h .count) (h .held))) (rw f at turn)
+  module _ (f : h .enough ≡ true) where
+    abbrev next : ℕ
+    next = latestStart (take (h .count) (h .held))
 
-  -- t stays
-  pub led-stays : h .enough ≡ true → latestStart (take (h .count) (h .held)) ≡ t → scheduler.chosen t (heldTo b (h .held) (h .count)) ≡ scheduler.choosing b a ready
-  led-stays f s = rw (eq-eqb (latestStart (take (h .count) (h .held))) t s) at (held f)
+    held : cond (eqb next t) (scheduler.chosen t (heldTo b (h .held) (h .count))) (scheduler.rounds rest b a ready next) ≡ scheduler.choosing b a ready
+    unfolding roundOf scheduler.settle
+    held = rw (latest-is b (take (h .count) (h .held))) (rw f at turn)
 
-  -- or goes on
-  pub led-on : h .enough ≡ true → (latestStart (take (h .count) (h .held)) ≡ t → ⊥) → Led b a ready (i + 1) (latestStart (take (h .count) (h .held)))
-  led-on f s = rw (ne-eqb (latestStart (take (h .count) (h .held))) t s) at (held f)
+    -- t stays
+    pub led-stays : next ≡ t → scheduler.chosen t (heldTo b (h .held) (h .count)) ≡ scheduler.choosing b a ready
+    led-stays s = rw (eq-eqb next t s) at held
+
+    -- or goes on, and fewer instants are left
+    module _ (v : valid b ≡ true) (accept : activityRefusal a ready ≡ 0) (asks : 1 ≤ length (requirementsOf a)) (s : next ≡ t → ⊥) where
+      pub led-fewer : Fewer b a ready t next
+      unfolding roundOf
+      led-fewer =
+          let m = latest-is b (take (h .count) (h .held)) in
+          rw m (instants-fall b v a ready (requirementsOf a) refl asks (accepted a ready accept .some) t (heldTo b (h .held) (h .count)) (sym e ∙ rw f refl) (λ z. s (m ∙ z)))
+
+      pub led-on : Led b a ready next
+      led-on = record { left = rest; more = omega (arith, led-fewer, k .more); so = rw (ne-eqb next t s) at held }
 
 -- those held start by 2^43
 pub latest-soon : (b : Board) (hs : List Hold) → Each (Lasting b) hs → latestStart hs ≤ 2 ^ 43
@@ -77,7 +86,7 @@ on-places b hs n m a = record { stands = λ k l. one k l .stands; some = λ k l.
 
 -- no choice: the rounds are done, or have led on
 pub settled-none : (b : Board) (a : Activity) (ready : ℕ) (x : Rounds) → x .choice .chosen ≡ false → x .choice .instant ≡ 0
-    → (x .done ≡ true → scheduler.noChoice ≡ scheduler.choosing b a ready) → (x .done ≡ false → (x .count < 10000) × (x .instant ≤ 2 ^ 43) × Led b a ready (x .count) (x .instant)) → Settled b a ready x
+    → (x .done ≡ true → scheduler.noChoice ≡ scheduler.choosing b a ready) → (x .done ≡ false → (x .instant ≤ 2 ^ 43) × Led b a ready (x .instant)) → Settled b a ready x
 unfolding choiceOf
 settled-none b a ready x e f ends goes = record { ends = λ d. rw e (ends d); goes = goes; soon = omega arith; chosen = λ d. absurd (not-both _ d e) }
 

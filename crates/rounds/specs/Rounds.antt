@@ -1,5 +1,5 @@
 -- A round as the code goes through it, place by place, and the rounds so far.
-use Prim.Native.Nat.{ℕ, zero, suc, _-_, _^_, _≤_, _<_}
+use Prim.Native.Nat.{ℕ, zero, suc, _^_, _≤_, _<_}
 use mathlib.Core.Path.{_≡_}
 use mathlib.Core.Bool.{true, false, cond}
 use mathlib.Core.List.{List, [], _++_}
@@ -13,6 +13,8 @@ use Rattle.scheduler.specs.Alone.{durationAlone}
 use Rattle.scheduler.specs.Choosing as scheduler
 use Rattle.scheduler.specs.Holds.{noHold, heldTo, OnPlaces}
 use Rattle.scheduler.specs.Lists.{Each}
+use Rattle.scheduler.specs.Events.{above}
+use Rattle.scheduler.specs.Ruled.{points}
 use Rattle.plans.specs.declared.Plan.{Plan}
 use Rattle.plans.specs.Plans.{Planned}
 use Rattle.answering.specs.Tables.{foundAt, requirementAt}
@@ -66,13 +68,19 @@ pub record Chosen (b : Board) (a : Activity) (ready : ℕ) (r : Choice) : Type 0
   pub places : OnPlaces b (r .held) (r .count)
   pub planned : Planned b a ready (b .len) (r .plans)
 
--- i rounds have led to t
-abbrev pub Led : Board → Activity → ℕ → ℕ → ℕ → Type 0
-Led b a ready i t = scheduler.rounds (10000 - i) b a ready t ≡ scheduler.choosing b a ready
+-- the rounds have led to t, and more of them are left than there are instants after t
+pub record Led (b : Board) (a : Activity) (ready t : ℕ) : Type 0 where
+  pub left : ℕ
+  pub more : above (points b a ready) t < left
+  pub so : scheduler.rounds left b a ready t ≡ scheduler.choosing b a ready
+
+-- fewer instants are left after u than after t
+abbrev pub Fewer : Board → Activity → ℕ → ℕ → ℕ → Type 0
+Fewer b a ready t u = above (points b a ready) u < above (points b a ready) t
 
 -- the rounds so far: they have ended in the choice, or have led to their instant
 pub record Settled (b : Board) (a : Activity) (ready : ℕ) (x : Rounds) : Type 0 where
   pub ends : x .done ≡ true → choiceOf b (x .choice) ≡ scheduler.choosing b a ready
-  pub goes : x .done ≡ false → (x .count < 10000) × (x .instant ≤ 2 ^ 43) × Led b a ready (x .count) (x .instant)
+  pub goes : x .done ≡ false → (x .instant ≤ 2 ^ 43) × Led b a ready (x .instant)
   pub soon : x .choice .instant ≤ 2 ^ 43
   pub chosen : x .choice .chosen ≡ true → Chosen b a ready (x .choice)

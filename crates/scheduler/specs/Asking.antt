@@ -3,20 +3,25 @@
 use mathlib.Core.Path.{_≡_, refl, sym, ap, _∙_, subst}
 use mathlib.Core.Bool.{Bool, true, false, _&&_}
 use mathlib.Core.List.{List, [], _∷_, _++_}
-use mathlib.Core.Logic.{⊎-elim}
+use mathlib.Core.Logic.{_⊎_, inl, inr, ⊎-elim}
 use Prim.Native.Nat.{ℕ, zero, suc, _+_, _-_, _*_, _^_, _≤_, _<_}
 use native.Mathlib.Omega.{arith}
+use lib.ListN.{getD}
 use lib.Dec.{eqb}
 use borrow.Author.Tests.{eqb-true, eqb-false}
 use Rattle.calendar.specs.Basics.{and-split, and-join, and-assoc, and-true, no-way, not-both, lt-or-ge}
 use Rattle.calendar.specs.Search.{Found, nothing, at}
 use Rattle.timeline.specs.declared.ResourceTimeline.{ResourceTimeline}
+use Rattle.board.specs.Resources.{noDiary}
 use Rattle.timeline.proofs.Searching.{Sought, sought-start}
 use Rattle.timeline.proofs.Meaning.{Earliest}
 use Rattle.scheduler.specs.Alone.{Share, canStart, allStart, earliestOf}
-use Rattle.scheduler.specs.Shares.{startOn, shareAt, sharesTo, Wanted}
+use Rattle.scheduler.specs.Shares.{startOn, shareAt, sharesTo, timelinesOf, Wanted}
 use Rattle.scheduler.specs.Answering.{Answers}
-use Rattle.scheduler.specs.Latest.{start-answers, start-range, sought-past, sought-never, together-is, wanted-sound}
+use Rattle.scheduler.specs.Fitting.{among}
+use Rattle.scheduler.specs.Tests.{or-in-left, or-in-right}
+use Rattle.scheduler.specs.Events.{events, eventsOf, among-append, above, above-le, above-falls}
+use Rattle.scheduler.specs.Latest.{start-answers, start-listed, start-range, sought-past, sought-never, together-is, wanted-sound}
 
 -- the diary to ask after the i-th: the next, and the first again where the start has moved on past those in front
 unfoldable pub nextAsked : ℕ → Bool → ℕ
@@ -113,17 +118,11 @@ module _ (resumable : Bool) (span : ℕ) (ts : List ResourceTimeline) (us : List
     pub asked-none : startOn resumable span (shareAt ts us i) t ≡ nothing → nothing ≡ earliestOf resumable span (sharesTo ts us n) from
     asked-none e = together-is resumable span (sharesTo ts us n) from nothing (wanted-sound ts us n wanted) (sought-never (all n) from t (a .sought) (λ y b. not-all n i y l (answers nothing e y b)))
 
-    -- the start rises, or it stays and a diary fewer is left to ask
-    pub asked-less : (x : ℕ) → n < 32 → startOn resumable span (shareAt ts us i) t ≡ at x → (2 ^ 43 - x) * 32 + (n - nextAsked i (eqb x t)) < (2 ^ 43 - t) * 32 + (n - i)
-    asked-less x few e = go (eqb x t) refl (answers (at x) e .low) (asked-on x e .range)
-      where
-        go : (q : Bool) → eqb x t ≡ q → t ≤ x → x ≤ 2 ^ 43 → (2 ^ 43 - x) * 32 + (n - nextAsked i q) < (2 ^ 43 - t) * 32 + (n - i)
-        go true e low r =
-            let z : x ≡ t = eqb-true x t e in
-            omega (arith, next-stays i)
-        go false e low r =
-            let m : t < x = ⊎-elim (λ (k : t < x). k) (λ (k : x ≤ t). absurd (eqb-false x t e (omega arith))) (lt-or-ge t x) in
-            omega arith
+    -- its answer is the instant asked from, or an event on its diary
+    pub asked-listed : (x : ℕ) → startOn resumable span (shareAt ts us i) t ≡ at x → (t ≤ x) × ((x ≡ t) ⊎ (among x (events (getD ts i noDiary)) ≡ true))
+    asked-listed x e =
+        let w : Earliest (can i) t x = answers (at x) e in
+        (w .low, start-listed resumable span (shareAt ts us i) t x w)
 
   -- with all asked, t is the least start
   pub asked-all : (n from t i : ℕ) → Wanted ts us n → Asked n from t i → n ≤ i → at t ≡ earliestOf resumable span (sharesTo ts us n) from
@@ -131,3 +130,23 @@ module _ (resumable : Bool) (span : ℕ) (ts : List ResourceTimeline) (us : List
       let z : i ≡ n = omega (arith, a .most) in
       together-is resumable span (sharesTo ts us n) from (at t) (wanted-sound ts us n wanted)
       (record { low = a .sought .low; holds = rw z at (a .those); first = a .sought .none })
+
+-- a diary more is asked, or the start has moved on to a listed instant and fewer are left after it
+pub asked-less : (l : List ℕ) (n before t i x : ℕ) → n < 32 → i < n → before ≤ t → t ≤ x → (x ≡ t) ⊎ (among x l ≡ true) → above l x * 32 + (n - nextAsked i (eqb x t)) < above l before * 32 + (n - i)
+asked-less l n before t i x few m low on listed = go (eqb x t) refl
+  where
+    go : (q : Bool) → eqb x t ≡ q → above l x * 32 + (n - nextAsked i q) < above l before * 32 + (n - i)
+    go true e = omega (arith, above-le l before x (omega arith), next-stays i)
+    go false e =
+        let ne = eqb-false x t e in
+        omega (arith, above-falls l t x (omega (arith, ne)) (⊎-elim (λ (z : x ≡ t). absurd (ne z)) (λ (z : among x l ≡ true). z) listed), above-le l before t low)
+
+-- an event on the i-th diary is one of all
+pub event-among : (xs : List Share) (i x : ℕ) → among x (events (getD (timelinesOf xs) i noDiary)) ≡ true → among x (eventsOf xs) ≡ true
+unfolding eventsOf events among
+event-among [] i x e = absurd (not-both true refl (sym e))
+event-among (y ∷ ys) zero x e = among-append x (events (y .timeline)) (eventsOf ys) ∙ or-in-left (among x (events (y .timeline))) (among x (eventsOf ys)) e
+event-among (y ∷ ys) (suc i) x e = among-append x (events (y .timeline)) (eventsOf ys) ∙ or-in-right (among x (events (y .timeline))) (among x (eventsOf ys)) (event-among ys i x e)
+
+pub listed-among : (xs : List Share) (i t x : ℕ) → (x ≡ t) ⊎ (among x (events (getD (timelinesOf xs) i noDiary)) ≡ true) → (x ≡ t) ⊎ (among x (eventsOf xs) ≡ true)
+listed-among xs i t x = ⊎-elim inl (λ (e : among x (events (getD (timelinesOf xs) i noDiary)) ≡ true). inr (event-among xs i x e))

@@ -148,6 +148,14 @@ module _ (b : Board) (a : Activity) (ready : ℕ) (kept : (q : ResourceRequireme
           let p = round-stays b a ready kept t (q ∷ qs) hs e (greatest-each t hs (omega arith)) in
           (p, ap heldOf (sym e ∙ round-at b a ready kept t (q ∷ qs) p))
 
+      -- a step leads to a listed instant, after which fewer are left
+      pub round-falls : (t : ℕ) (hs : List Held) → round b a ready t (q ∷ qs) ≡ holds hs → (greatestStart hs ≡ t → ⊥) → (t ≤ greatestStart hs) × (above points (greatestStart hs) < above points t)
+      round-falls t hs e ne =
+          let most = round-some b a ready kept t q qs hs some e in
+          let ge = greatest-ge t hs (round-from b a ready kept t (q ∷ qs) hs e) most in
+          let on = greatest-is (OnPoint t) hs (round-listed t (q ∷ qs) hs e) most in
+          (ge, ⊎-elim (λ (z : greatestStart hs ≡ t). absurd (ne z)) (λ (z : among (greatestStart hs) points ≡ true). above-falls points t (greatestStart hs) (omega (arith, ne)) z) on)
+
       rounds-choose : (n t : ℕ) → above points t < n → Sought P ready t → Chooses P H ready (rounds n b a ready t)
       unfolding rounds settle
       rounds-choose zero t l s = absurd (omega arith)
@@ -160,12 +168,8 @@ module _ (b : Board) (a : Activity) (ready : ℕ) (kept : (q : ResourceRequireme
               let w = stays t hs e (eqb-true (greatestStart hs) t k) in
               (record { low = s .low; holds = w .0; first = s .none }, w .1)
           step hs e false k again =
-              let ne = eqb-false (greatestStart hs) t k in
-              let some = round-some b a ready kept t q qs hs some e in
-              let ge = greatest-ge t hs (round-from b a ready kept t (q ∷ qs) hs e) some in
-              let on = greatest-is (OnPoint t) hs (round-listed t (q ∷ qs) hs e) some in
-              let falls = ⊎-elim (λ (z : greatestStart hs ≡ t). absurd (ne z)) (λ (z : among (greatestStart hs) points ≡ true). above-falls points t (greatestStart hs) (omega arith) z) on in
-              again (greatestStart hs) (omega arith) (onward t hs e s ge)
+              let w = round-falls t hs e (eqb-false (greatestStart hs) t k) in
+              again (greatestStart hs) (omega (arith, w .1)) (onward t hs e s (w .0))
 
           go : (r : Round) → round b a ready t (q ∷ qs) ≡ r → ((u : ℕ) → above points u < n → Sought P ready u → Chooses P H ready (rounds n b a ready u)) → Chooses P H ready (settle t r (rounds n b a ready))
           go tooFew e again = λ x m. ⊎-elim (λ (z : x < t). s .none x m z) (λ (z : t ≤ x). never t e x z) (lt-or-ge x t)

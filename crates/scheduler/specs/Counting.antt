@@ -6,7 +6,7 @@ use mathlib.Core.List.{List, [], _∷_, _++_}
 use mathlib.Core.Logic.{_⊎_, inl, inr, ⊎-elim}
 use Prim.Native.Nat.{ℕ, zero, suc, _+_, _≤_, _<_}
 use native.Mathlib.Omega.{arith}
-use lib.ListN.{length, take, length-append, length-take}
+use lib.ListN.{length, getD, take, length-append, length-take}
 use lib.Dec.{eqb}
 use borrow.Author.Tests.{eqb-true, eqb-false}
 use Rattle.calendar.specs.declared.Calendar.{Calendar}
@@ -18,12 +18,12 @@ use Rattle.timeline.specs.Diary.{diary}
 use Rattle.timeline.proofs.Searching.{Sought, sought-start}
 use Rattle.activity.specs.declared.ResourceRequirement.{ResourceRequirement}
 use Rattle.activity.specs.declared.Activity.{Activity}
-use Rattle.activity.specs.Check.{requirementsOf}
+use Rattle.activity.specs.Check.{noRequirement, requirementsOf}
 use Rattle.board.specs.declared.Board.{Board}
 use Rattle.board.specs.Resources.{resourcesOf, onBoard}
 use Rattle.board.specs.Valid as board
 use Rattle.scheduler.specs.Alone.{Share, allStart, earliestOf, diaryOf}
-use Rattle.scheduler.specs.Choosing.{Held, Choice, noChoice, chosen, rounds, choosing}
+use Rattle.scheduler.specs.Choosing.{Held, holds, round, greatestStart, Choice, noChoice, chosen, rounds, choosing}
 use Rattle.scheduler.specs.declared.Entry.{Entry}
 use Rattle.scheduler.specs.Fitting.{among, sharesOf, suits, fitting}
 use Rattle.scheduler.specs.Plain.{enough, heldAt}
@@ -32,7 +32,7 @@ use Rattle.scheduler.specs.Lists.{Each, each-end, each-on}
 use Rattle.scheduler.specs.Together.{Sound}
 use Rattle.scheduler.specs.Answering.{Answers, answers-same}
 use Rattle.scheduler.specs.Events.{events, eventsOf, among-append, above, above-falls, above-length}
-use Rattle.scheduler.specs.Chosen.{Chooses, rounds-mean}
+use Rattle.scheduler.specs.Chosen.{Chooses, round-falls, rounds-mean}
 use Rattle.scheduler.specs.Ruled.{eventsOn, on-event, on-valid, all-kept, all-listed, points, points-length, events-board}
 use Rattle.scheduler.specs.Closing.{fitting-answers}
 use Rattle.scheduler.specs.Latest.{latestOf, Step, Latest, latest-says, sought-past, sought-never, together-answers, events-count}
@@ -92,6 +92,15 @@ choosing-rounds b v a ready q qs asks some n h =
     choices-same (enough b a ready (q ∷ qs)) (heldAt b a ready (q ∷ qs)) ready (rounds n b a ready ready) (rounds 10000 b a ready ready)
     (mean n (omega (arith, above-length p ready, points-length b v a ready)))
     (mean 10000 (omega (arith, above-length p ready, points-length b v a ready)))
+
+-- So the number of instants left is what the rounds go by: fewer are left after each round that leads on, and at most 2,064 at first.
+pub instants-few : (b : Board) → board.valid b ≡ true → (a : Activity) (ready t : ℕ) → above (points b a ready) t ≤ 2064
+instants-few b v a ready t = omega (arith, above-length (points b a ready) t, points-length b v a ready)
+
+pub instants-fall : (b : Board) → board.valid b ≡ true → (a : Activity) (ready : ℕ) (qs : List ResourceRequirement) → requirementsOf a ≡ qs → 1 ≤ length qs → ((i : ℕ) → i < length qs → 1 ≤ getD qs i noRequirement .quantity)
+    → (t : ℕ) (hs : List Held) → round b a ready t qs ≡ holds hs → (greatestStart hs ≡ t → ⊥) → above (points b a ready) (greatestStart hs) < above (points b a ready) t
+instants-fall b v a ready [] asks l some t hs e ne = absurd (omega arith)
+instants-fall b v a ready (q ∷ qs) asks l some t hs e ne = round-falls b a ready (all-kept b v a ready) (points b a ready) (all-listed b v a ready) q qs asks (some 0 (omega arith)) t hs e ne .1
 
 -- Companions: any number above 640 gives the least start of a resource with its at most four companions.
 pub companions-rounds : (resumable : Bool) (span : ℕ) (xs : List Share) (from n : ℕ) → Sound xs → length xs ≤ 5 → 640 < n → steps n (latestOf resumable span xs) from ≡ earliestOf resumable span xs from

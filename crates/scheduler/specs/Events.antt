@@ -91,7 +91,7 @@ above-length (x ∷ l) t = go (ltb t x) (above-length l t)
     go true h = omega arith
     go false h = omega arith
 
-above-le : (l : List ℕ) (t s : ℕ) → t ≤ s → above l s ≤ above l t
+pub above-le : (l : List ℕ) (t s : ℕ) → t ≤ s → above l s ≤ above l t
 unfolding above
 above-le [] t s h = omega arith
 above-le (x ∷ l) t s h = go (ltb s x) (ltb t x) refl refl (above-le l t s h)

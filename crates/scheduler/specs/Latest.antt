@@ -69,7 +69,7 @@ abbrev pub Latest : (ℕ → Bool) → List ℕ → ℕ → Found → Type 0
 Latest P l t nothing = (y : ℕ) → t ≤ y → P y ≡ false
 Latest P l t (at u) = Step P l t u
 
-start-listed : (resumable : Bool) (span : ℕ) (x : Share) (t s : ℕ) → Earliest (canStart resumable span x) t s → (s ≡ t) ⊎ (among s (events (x .timeline)) ≡ true)
+pub start-listed : (resumable : Bool) (span : ℕ) (x : Share) (t s : ℕ) → Earliest (canStart resumable span x) t s → (s ≡ t) ⊎ (among s (events (x .timeline)) ≡ true)
 start-listed resumable span x t s w =
     least-listed (canStart resumable span x) (events (x .timeline)) t s (λ y l e h. can-back resumable span x y (still-else (x .timeline) y e) h) w
 

@@ -42,7 +42,7 @@ eventsOn (r ∷ rs) = events (r .timeline) ++ eventsOn rs
 unfoldable pub points : Board → Activity → ℕ → List ℕ
 points b a ready = map (arrival b a ready) (resourcesOf b) ++ eventsOn (resourcesOf b)
 
-event-on : (x n : ℕ) (xs : List Resource) (i : ℕ) → i < n → among x (events (getD xs i noResource .timeline)) ≡ true → among x (eventsOn (take n xs)) ≡ true
+pub event-on : (x n : ℕ) (xs : List Resource) (i : ℕ) → i < n → among x (events (getD xs i noResource .timeline)) ≡ true → among x (eventsOn (take n xs)) ≡ true
 unfolding eventsOn events among
 event-on x n [] i l e = absurd (not-both true refl (sym e))
 event-on x zero (r ∷ rs) i l e = absurd (omega arith)

@@ -1,1 +1,2 @@
--- Nothing of its own: what several diaries answer together is defined in scheduler/specs (Alone, Asking).
+-- How far the asking of several diaries has come. What they answer together is defined in scheduler/specs (Alone, Asking).
+pub mod Steps

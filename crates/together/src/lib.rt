@@ -1,4 +1,5 @@
-// Several diaries together: the least start at which each has its units free (the Rust's `with_companions`; 01, 'Choosing').
+// Several diaries asked one after another, each from the start that the one before gave (the Rust's `with_companions`; 01, 'Choosing').
+use calendar::limits::NEVER;
 use earliest::Start;
 use joint::WorkEnd;
 use timeline::ResourceTimeline;
@@ -7,15 +8,14 @@ ghost use mathlib.Core.Bool.{true};
 ghost use Prim.Native.Nat.{_^_, _≤_, _<_};
 ghost use Rattle.timeline.specs.Valid.{valid};
 ghost use Rattle.earliest.specs.Steps.{startOf};
-ghost use Rattle.scheduler.specs.Alone.{earliestOf};
-ghost use Rattle.scheduler.specs.Shares.{startOn, sharesTo, Wanted};
+ghost use Rattle.scheduler.specs.Shares.{startOn};
 ghost use Rattle.scheduler.specs.Asking.{nextAsked};
+ghost use Rattle.together.specs.Steps.{answeredBy};
 
-// A resource and its companions: the first `len` diaries, with the units wanted of each.
-pub struct Group {
-    pub timelines: [ResourceTimeline; 5],
-    pub units: [u32; 5],
-    pub len: usize,
+// How far the asking has come: those in front of the one to ask next can start at `start`. At 0 and 0 nobody is asked yet.
+pub struct Asking {
+    pub start: u64,
+    pub next: usize,
 }
 
 // The least start on one diary, unbroken or resumable.
@@ -48,26 +48,25 @@ pub fn next_asked(i: usize, stays: bool) -> usize
     0
 }
 
-// The least start on all of them.
-pub fn earliest_start(g: Group, resumable: bool, span: u64, from: u64) -> Start
-    requires { ⌜ (g .len ≤ 5) × Wanted (g .timelines) (g .units) (g .len) × (from ≤ 2 ^ 43) × (span ≤ 2 ^ 53) ⌝ }
-    ensures { λ r. ⌜ startOf r ≡ earliestOf resumable span (sharesTo (g .timelines) (g .units) (g .len)) from ⌝ }
+pub fn unasked() -> Asking
+    ensures { λ r. ⌜ r ≡ record { start = 0; next = 0 } ⌝ }
 {
-    let n = g.len;
-    let mut t = from;
-    let mut i: usize = 0;
-    while i < n {
-        let d = g.timelines[i];
-        let s = start_on(d, resumable, span, g.units[i], t);
-        match s {
-            Start::At(x) => {
-                i = next_asked(i, x == t);
-                t = x;
-            }
-            Start::Nothing => {
-                return Start::Nothing;
-            }
-        }
+    Asking { start: 0, next: 0 }
+}
+
+// The i-th of at most five has answered, asked from an instant on. Where it has no start, none of the others is asked: 2^63, and past them.
+pub fn answered(i: usize, from: u64, s: Start) -> Asking
+    requires { ⌜ i < 2 ^ 63 ⌝ }
+    ensures { λ r. ⌜ r ≡ answeredBy i from (startOf s) ⌝ }
+{
+    match s {
+        Start::At(x) => Asking {
+            start: x,
+            next: next_asked(i, x == from),
+        },
+        Start::Nothing => Asking {
+            start: NEVER,
+            next: 5,
+        },
     }
-    Start::At(t)
 }

@@ -1,43 +1,32 @@
--- `choosing::choose` meets its contract. The loop: the plans of the places so far, the rounds so far (Settled), and in the round at hand
--- what is known of the cells in front (Through).
+-- `choosing::choose` meets its contract. The loop: its state (Stepping) and, in the round at hand, the asking of the members (Asking).
 use Rattle.choosing.proofs.choose.Statement.{statement}
 use Rattle.choosing.proofs.choose.Tie as tie
 use borrow.Author.Needs.{needs}
 use borrow.Author.Tests.{not-true, not-false}
-use mathlib.Core.Path.{_≡_, refl, sym, ap, _∙_, subst}
+use mathlib.Core.Path.{_≡_, refl, sym, ap, _∙_}
 use mathlib.Core.Bool.{true, false}
 use mathlib.Core.Logic.{⊎-elim}
-use Prim.Native.Nat.{ℕ, _+_, _-_, _*_, _/_, _%_, _^_, _≤_, _<_}
+use Prim.Native.Nat.{ℕ, _+_, _*_, _/_, _%_, _≤_, _<_}
 use native.Mathlib.Omega.{arith}
-use lib.ListN.{length, replicate, length-map}
-use Rattle.calendar.specs.Basics.{not-both}
-use Rattle.activity.specs.declared.Activity.{Activity}
-use Rattle.activity.specs.Check.{activityRefusal}
-use Rattle.activity.proofs.Judging.{accepted}
-use Rattle.board.specs.declared.Board.{Board}
+use lib.ListN.{getD, length, length-map}
 use Rattle.board.specs.Resources.{resourceAt}
 use Rattle.board.proofs.Facts.{rules}
 use Rattle.board.proofs.Meaning.{resource-of}
 use Rattle.earliest.specs.Steps.{startOf}
-use Rattle.plans.specs.Plans.{noPlan, planWith, planOf, Planned}
-use Rattle.plans.proofs.Planning.{order-lawful, category-range, way-small, arrival-is, planned-next}
-use Rattle.alone.proofs.Seating.{seated-wanted}
-use Rattle.answering.specs.Tables.{requirementAt, foundAt, Kept}
-use Rattle.answering.proofs.Finding.{used-some}
-use Rattle.answering.proofs.Noting.{Through, through-start, kept-none, cell-known, kept-asked, through-asked}
+use Rattle.plans.specs.Plans.{noPlan, planWith}
+use Rattle.plans.proofs.Planning.{order-lawful, category-range, way-small, arrival-is}
+use Rattle.together.specs.Steps.{answeredBy}
+use Rattle.answering.specs.Tables.{requirementAt}
 use Rattle.rounds.specs.declared.Rounds.{Rounds}
-use Rattle.rounds.specs.Rounds.{Settled}
-use Rattle.rounds.proofs.Settling.{led-start, settled-none}
-use Rattle.choosing.proofs.Asking.{asked-here, planned-at, number-range, companions-range, ranges, seated, found-idle, found-asked}
+use Rattle.rounds.specs.declared.Choice.{Choice}
+use Rattle.choosing.proofs.Asking.{Next, Told, number-range, companions-range, span-small, count-is, there, diary-kept, units-some, from-small, told-nowhere, told-asked}
+use Rattle.choosing.proofs.Stepping.{idle, State, left, state-start, state-planned, left-planned, answers, state-settled, left-settled, state-known, left-known, next-asked, state-on, state-found, left-asked}
 
 abbrev Inv-loop : tie.InvT-loop
-Inv-loop ready places b a plans₀ asked₀ starts₀ x₀ planned₀ k₀ plans asked starts x planned k =
-    (b .len ≤ 16) × (a .len ≤ 4) × (length (a .requirements) ≡ 4) × (planned ≤ b .len) × (k ≤ 16 * a .len) × (x .count ≤ 10000)
-    × Planned b a ready planned plans × Settled b a ready x × Kept b a ready asked starts × Through b a ready (x .instant) starts k
+Inv-loop ready places b a plans₀ asked₀ starts₀ x₀ g₀ planned₀ k₀ plans asked starts x g planned k = State b a ready plans asked starts x g planned k
 
 abbrev μ-loop : tie.MeasureT-loop
-μ-loop ready places b a plans₀ asked₀ starts₀ x₀ planned₀ k₀ plans asked starts x planned k =
-    200 * (10000 - x .count) + (64 - k) + (16 - planned)
+μ-loop ready places b a plans₀ asked₀ starts₀ x₀ g₀ planned₀ k₀ plans asked starts x g planned k = left b a ready x g planned k
 
 no-plans-requires : tie.Need-no-plans-requires Inv-loop μ-loop
 no-plans-requires c κs = search needs
@@ -45,35 +34,26 @@ no-plans-requires c κs = search needs
 begun-requires : tie.Need-begun-requires Inv-loop μ-loop
 begun-requires c κs = search needs
 
+unasked-requires : tie.Need-unasked-requires Inv-loop μ-loop
+unasked-requires c κs = search needs
+
 loop-holds : tie.Need-loop-holds Inv-loop μ-loop
 loop-holds c =
-    let d = c .before .before in
-    let b = d .args .t1 in
-    let a = d .args .t2 in
-    let f = rules b (d .pre .0) .few in
-    let k = accepted a (d .args .ready) (d .pre .1) in
-    let n = c .begun .ensures in (
-      f,
-      k .few,
-      simp length-map at (d .good .1 .0 .1 .1 .1 .1 .1 .1 .1 .1 .0 .1 .0 .1),
-      omega arith,
-      omega arith,
-      omega (arith, ap (λ (x : Rounds). x .count) n),
-      record { long = ap length (c .before .no-plans .ensures); so = λ i l. absurd (omega arith) },
-      rw n (settled-none b a (d .args .ready) _ refl refl (λ z. absurd (not-both true refl (sym z))) (λ z. (omega arith, omega (arith, k .ready-range), led-start b a (d .args .ready)))),
-      kept-none b a (d .args .ready) f (k .few),
-      through-start b a (d .args .ready) (c .begun .result .instant) (replicate 64 0),
-    )
+    let d = c .before .before .before in
+    let n = c .before .begun .ensures in
+    rw (c .unasked .ensures)
+    (state-start (d .args .t1) (d .pre .0) (d .args .t2) (d .args .ready) (d .pre .1) (d .pre .2) (simp length-map at (d .good .1 .0 .1 .1 .1 .1 .1 .1 .1 .1 .0 .1 .0 .1)) _ _ (ap length (c .before .before .no-plans .ensures))
+    (ap (λ (x : Rounds). x .done) n) (ap (λ (x : Rounds). x .instant) n) (ap (λ (x : Rounds). x .choice .chosen) n) (ap (λ (x : Rounds). x .choice .instant) n))
 
 mul-r : tie.Need-mul-r Inv-loop μ-loop
-mul-r c = search needs
+mul-r c = record { fits = omega (arith, c .before .before .before .loop .inv .few, c .if2 .taken) }
 
 element-copy-out-r : tie.Need-element-copy-out-r Inv-loop μ-loop
-element-copy-out-r c = search needs
+element-copy-out-r c = omega (arith, c .before .before .before .loop .inv .few, c .if2 .taken)
 
 plan-of-requires : tie.Need-plan-of-requires Inv-loop μ-loop
 plan-of-requires c κs =
-    let d = c .before .before .before .before .before .before .before .before .before in
+    let d = c .before .before .before .before .before .before .before .before .before .before in
     let b = d .args .t1 in
     let a = d .args .t2 in
     let i = c .before .before .before .before .before .before .loop .planned in
@@ -81,329 +61,199 @@ plan-of-requires c κs =
     (rules b (d .pre .0) .right i l, order-lawful b a (d .args .ready) (d .pre .0) (d .pre .1), category-range b a (d .args .ready) (d .pre .0) (d .pre .1), way-small b a (d .args .ready) (d .pre .0) (d .pre .1) i l)
 
 mul-plans : tie.Need-mul-plans Inv-loop μ-loop
-mul-plans c = search needs
+mul-plans c = record { fits = omega (arith, c .before .before .before .before .before .before .before .loop .inv .few, c .before .before .before .before .if2 .taken) }
 
 array-set-from-plans : tie.Need-array-set-from-plans Inv-loop μ-loop
-array-set-from-plans c = search needs
+array-set-from-plans c = omega (arith, c .before .before .before .before .before .before .before .loop .inv .few, c .before .before .before .before .if2 .taken)
 
 add-planned : tie.Need-add-planned Inv-loop μ-loop
-add-planned c = search needs
+add-planned c = record { fits = omega (arith, c .before .before .before .before .before .before .before .loop .inv .few, c .before .before .before .before .if2 .taken) }
 
 loop-less : tie.Need-loop-less Inv-loop μ-loop
-loop-less c = search needs
+loop-less c =
+    let d = c .before .before .before .before .before .before .before .before .before .before .before in
+    let u = c .before .before .before .before .before .before .before .loop in
+    left-planned (d .args .t1) (d .pre .0) (d .args .t2) (d .args .ready) (d .pre .1) (d .pre .2) (u .plans) (u .asked) (u .starts) (u .x) (u .g) (u .planned) (u .k) (u .inv) (not-true _ (c .before .before .before .before .before .if1 .taken)) (c .before .before .before .before .if2 .taken)
 
 loop-again : tie.Need-loop-again Inv-loop μ-loop
 loop-again c =
-    let d = c .before .before .before .before .before .before .before .before .before .before in
+    let d = c .before .before .before .before .before .before .before .before .before .before .before in
     let b = d .args .t1 in
     let a = d .args .t2 in
-    let v = c .before .before .before .before .before .before .before .loop .inv in
-    let i = c .before .before .before .before .before .before .before .loop .planned in
+    let u = c .before .before .before .before .before .before .before .loop in
     let l = c .before .before .before .before .if2 .taken in
-    (v .0, v .1, v .2, omega arith, v .4, v .5, planned-next b a (d .args .ready) i (c .before .before .before .before .before .before .before .loop .plans) (c .plan-of .result) (v .6) (omega (arith, v .0)) (c .plan-of .ensures ∙ ap (planWith a (resourceAt b i)) (arrival-is b a (d .args .ready) (d .pre .0) (d .pre .1) i l)), v .7, v .8, v .9)
+    state-planned b (d .pre .0) a (d .args .ready) (d .pre .1) (d .pre .2) (u .plans) (u .asked) (u .starts) (u .x) (u .g) (u .planned) (u .k) (u .inv) (not-true _ (c .before .before .before .before .before .if1 .taken)) l (c .plan-of .result)
+    (c .plan-of .ensures ∙ ap (planWith a (resourceAt b (u .planned))) (arrival-is b a (d .args .ready) (d .pre .0) (d .pre .1) (u .planned) l))
+    (simp length-map at (c .plan-of .ok .1 .1 .1 .1 .1 .0 .1 .0 .1))
 
 mul-if3 : tie.Need-mul-if3 Inv-loop μ-loop
-mul-if3 c = search needs
+mul-if3 c = record { fits = omega (arith, c .before .before .before .loop .inv .four) }
+
+settled-requires : tie.Need-settled-requires Inv-loop μ-loop
+settled-requires c κs =
+    let d = c .before .before .before .before .before .before .before .before in
+    (c .before .before .before .before .loop .inv .few, (d .args .ready, d .pre .1), d .pre .2)
+
+loop-less-2 : tie.Need-loop-less-2 Inv-loop μ-loop
+loop-less-2 c =
+    let d = c .before .before .before .before .before .before .before .before .before in
+    let b = d .args .t1 in
+    let u = c .before .before .before .before .before .loop in
+    let all : u .planned ≡ b .len = omega (arith, u .inv .most, c .before .before .if2 .left) in
+    let goes = not-true _ (c .before .before .before .if1 .taken) in
+    let w = answers b (d .pre .0) (d .args .t2) (d .args .ready) (d .pre .1) (d .pre .2) (u .plans) (u .asked) (u .starts) (u .x) (u .g) (u .planned) (u .k) (u .inv) goes all (c .before .if3 .taken) in
+    left-settled b (d .pre .0) (d .args .t2) (d .args .ready) (d .pre .1) (d .pre .2) (u .plans) (u .asked) (u .starts) (u .x) (u .g) (u .planned) (u .k) (u .inv) goes all (c .before .if3 .taken) (c .settled .result) (c .settled .ensures b (d .args .ready) w (u .inv .settled .goes goes .1) .1)
+
+loop-again-2 : tie.Need-loop-again-2 Inv-loop μ-loop
+loop-again-2 c =
+    let d = c .before .before .before .before .before .before .before .before .before in
+    let b = d .args .t1 in
+    let u = c .before .before .before .before .before .loop in
+    let all : u .planned ≡ b .len = omega (arith, u .inv .most, c .before .before .if2 .left) in
+    let goes = not-true _ (c .before .before .before .if1 .taken) in
+    let w = answers b (d .pre .0) (d .args .t2) (d .args .ready) (d .pre .1) (d .pre .2) (u .plans) (u .asked) (u .starts) (u .x) (u .g) (u .planned) (u .k) (u .inv) goes all (c .before .if3 .taken) in
+    state-settled b (d .pre .0) (d .args .t2) (d .args .ready) (d .pre .1) (d .pre .2) (u .plans) (u .asked) (u .starts) (u .x) (u .g) (u .planned) (u .k) (u .inv) goes all (c .before .if3 .taken) (c .settled .result) (c .settled .ensures b (d .args .ready) w (u .inv .settled .goes goes .1) .0)
 
 mul-is-asked : tie.Need-mul-is-asked Inv-loop μ-loop
-mul-is-asked c = search needs
+mul-is-asked c = record { fits = omega (arith, c .before .before .before .before .loop .inv .four, c .if3 .left) }
 
 array-read-is-asked : tie.Need-array-read-is-asked Inv-loop μ-loop
-array-read-is-asked c =
-    let v = c .before .before .before .before .loop .inv in
-    omega (arith, v .1, v .8 .asked-long)
+array-read-is-asked c = omega (arith, c .before .before .before .before .loop .inv .four, c .if3 .left)
 
 mul-is-asked-2 : tie.Need-mul-is-asked-2 Inv-loop μ-loop
-mul-is-asked-2 c = search needs
+mul-is-asked-2 c = record { fits = omega (arith, c .before .before .before .before .loop .inv .four, c .if3 .left) }
 
 array-read-is-asked-2 : tie.Need-array-read-is-asked-2 Inv-loop μ-loop
-array-read-is-asked-2 c = search needs
+array-read-is-asked-2 c = omega (arith, c .before .before .before .before .loop .inv .four, c .if3 .left)
 
 is-asked-requires : tie.Need-is-asked-requires Inv-loop μ-loop
 is-asked-requires c κs = search needs
 
 mul-q : tie.Need-mul-q Inv-loop μ-loop
-mul-q c = search needs
+mul-q c = record { fits = omega (arith, c .before .before .before .before .before .before .loop .inv .four, c .before .before .if3 .left) }
 
 element-copy-out-q : tie.Need-element-copy-out-q Inv-loop μ-loop
-element-copy-out-q c = search needs
+element-copy-out-q c = omega (arith, c .before .before .before .before .before .before .loop .inv .four, c .before .before .if3 .left)
 
 mul-p : tie.Need-mul-p Inv-loop μ-loop
-mul-p c = search needs
+mul-p c = record { fits = omega arith }
 
 array-copy-out-p : tie.Need-array-copy-out-p Inv-loop μ-loop
-array-copy-out-p c = search needs
+array-copy-out-p c = omega arith
 
-serves-requires : tie.Need-serves-requires Inv-loop μ-loop
-serves-requires c κs =
-    let d = c .before .before .before .before .before .before .before .before .before .before .before in
+-- who is asked next
+next : (c : tie.After-p Inv-loop μ-loop)
+    → Next (c .before .before .before .before .before .before .before .before .before .before .before .before .args .t1) (c .before .before .before .before .before .before .before .before .before .before .before .before .args .t2) (c .before .before .before .before .before .before .before .before .before .before .before .before .args .ready) (c .before .before .before .before .before .before .before .before .loop .k % 16) (c .before .before .before .before .before .before .before .before .loop .x .instant) (requirementAt (c .before .before .before .before .before .before .before .before .before .before .before .before .args .t2) (c .before .before .before .before .before .before .before .before .loop .k / 16)) (getD (c .before .before .before .before .before .before .before .before .loop .plans) (c .before .before .before .before .before .before .before .before .loop .k % 16) noPlan) (c .before .before .before .before .before .before .before .before .loop .g)
+next c =
+    let d = c .before .before .before .before .before .before .before .before .before .before .before .before in
     let b = d .args .t1 in
-    let a = d .args .t2 in
-    let v = c .before .before .before .before .before .before .before .before .loop .inv in
-    let k = c .before .before .before .before .before .before .before .before .loop .k in
-    let here = asked-here (k % 16) (b .len) _ (sym (c .before .before .before .is-asked .ensures) ∙ c .before .before .if4 .taken) in
-    let all : c .before .before .before .before .before .before .before .before .loop .planned ≡ b .len = omega (arith, v .3, c .before .before .before .before .before .if2 .left) in
-    let p = planned-at b a (d .args .ready) (c .before .before .before .before .before .before .before .before .loop .plans) (c .before .before .before .before .before .before .before .before .loop .planned) (v .6) all (k % 16) here in
-    number-range b (d .pre .0) a (d .args .ready) (d .pre .1) (k % 16) here _ p
+    let u = c .before .before .before .before .before .before .before .before .loop in
+    let all : u .planned ≡ b .len = omega (arith, u .inv .most, c .before .before .before .before .before .if2 .left) in
+    next-asked b (d .pre .0) (d .args .t2) (d .args .ready) (d .pre .1) (d .pre .2) (u .plans) (u .asked) (u .starts) (u .x) (u .g) (u .planned) (u .k) (u .inv) (not-true _ (c .before .before .before .before .before .before .if1 .taken)) (c .before .before .before .before .if3 .left) all (sym (c .before .before .before .is-asked .ensures) ∙ c .before .before .if4 .taken)
 
-members-of-requires : tie.Need-members-of-requires Inv-loop μ-loop
-members-of-requires c κs =
-    let d = c .before .before .before .before .before .before .before .before .before .before .before .before .before .before in
-    let b = d .args .t1 in
-    let a = d .args .t2 in
-    let v = c .before .before .before .before .before .before .before .before .before .before .before .loop .inv in
-    let k = c .before .before .before .before .before .before .before .before .before .before .before .loop .k in
-    let here = asked-here (k % 16) (b .len) _ (sym (c .before .before .before .before .before .before .is-asked .ensures) ∙ c .before .before .before .before .before .if4 .taken) in
-    let all : c .before .before .before .before .before .before .before .before .before .before .before .loop .planned ≡ b .len = omega (arith, v .3, c .before .before .before .before .before .before .before .before .if2 .left) in
-    let p = planned-at b a (d .args .ready) (c .before .before .before .before .before .before .before .before .before .before .before .loop .plans) (c .before .before .before .before .before .before .before .before .before .before .before .loop .planned) (v .6) all (k % 16) here in
-    companions-range b (d .pre .0) a (d .args .ready) (d .pre .1) (k % 16) here _ p
+member-of-requires : tie.Need-member-of-requires Inv-loop μ-loop
+member-of-requires c κs =
+    let d = c .before .before .before .before .before .before .before .before .before .before .before .before in
+    let n = next c in
+    let r = companions-range _ _ _ _ _ _ (d .pre .0) (d .pre .1) (d .args .places) (d .pre .3) _ _ n in
+    (number-range _ _ _ _ _ _ (d .pre .0) (d .pre .1) (d .args .places) (d .pre .3) _ _ n, r .0, r .1)
 
-mul-first : tie.Need-mul-first Inv-loop μ-loop
-mul-first c = search needs
+mul-r-2 : tie.Need-mul-r-2 Inv-loop μ-loop
+mul-r-2 c = record { fits = omega (arith, c .if5 .taken) }
 
-element-copy-out-first : tie.Need-element-copy-out-first Inv-loop μ-loop
-element-copy-out-first c =
-    let d = c .before .before .before .before .before .before .before .before .before .before .before .before .before .before .before in
-    let b = d .args .t1 in
-    let a = d .args .t2 in
-    let v = c .before .before .before .before .before .before .before .before .before .before .before .before .loop .inv in
-    let k = c .before .before .before .before .before .before .before .before .before .before .before .before .loop .k in
-    let here = asked-here (k % 16) (b .len) _ (sym (c .before .before .before .before .before .before .before .is-asked .ensures) ∙ c .before .before .before .before .before .before .if4 .taken) in
-    let all : c .before .before .before .before .before .before .before .before .before .before .before .before .loop .planned ≡ b .len = omega (arith, v .3, c .before .before .before .before .before .before .before .before .before .if2 .left) in
-    let p = planned-at b a (d .args .ready) (c .before .before .before .before .before .before .before .before .before .before .before .before .loop .plans) (c .before .before .before .before .before .before .before .before .before .before .before .before .loop .planned) (v .6) all (k % 16) here in
-    omega (arith, here, v .0)
+element-copy-out-r-2 : tie.Need-element-copy-out-r-2 Inv-loop μ-loop
+element-copy-out-r-2 c = c .if5 .taken
 
-element-copy-out-second : tie.Need-element-copy-out-second Inv-loop μ-loop
-element-copy-out-second c = search needs
+start-on-requires : tie.Need-start-on-requires Inv-loop μ-loop
+start-on-requires c κs =
+    let d = c .before .before .before .before .before .before .before .before .before .before .before .before .before .before .before .before in
+    let n = next (c .before .before .before .before) in
+    let e = c .before .before .before .member-of .ensures in
+    let h = c .before .before .if5 .taken in
+    (diary-kept _ _ _ _ _ _ (d .pre .0) (d .pre .1) (d .args .places) (d .pre .3) _ _ n _ e h, from-small _ _ _ _ _ _ (d .pre .0) (d .pre .1) (d .args .places) (d .pre .3) _ _ n _ e h, span-small _ _ _ _ _ _ (d .pre .0) (d .pre .1) (d .args .places) (d .pre .3) _ _ n, units-some _ _ _ _ _ _ (d .pre .0) (d .pre .1) (d .args .places) (d .pre .3) _ _ n _ e h)
 
-mul-second : tie.Need-mul-second Inv-loop μ-loop
-mul-second c =
-    let d = c .before .before .before .before .before .before .before .before .before .before .before .before .before .before .before .before .before in
-    let b = d .args .t1 in
-    let a = d .args .t2 in
-    let v = c .before .before .before .before .before .before .before .before .before .before .before .before .before .before .loop .inv in
-    let k = c .before .before .before .before .before .before .before .before .before .before .before .before .before .before .loop .k in
-    let here = asked-here (k % 16) (b .len) _ (sym (c .before .before .before .before .before .before .before .before .before .is-asked .ensures) ∙ c .before .before .before .before .before .before .before .before .if4 .taken) in
-    let all : c .before .before .before .before .before .before .before .before .before .before .before .before .before .before .loop .planned ≡ b .len = omega (arith, v .3, c .before .before .before .before .before .before .before .before .before .before .before .if2 .left) in
-    let p = planned-at b a (d .args .ready) (c .before .before .before .before .before .before .before .before .before .before .before .before .before .before .loop .plans) (c .before .before .before .before .before .before .before .before .before .before .before .before .before .before .loop .planned) (v .6) all (k % 16) here in
-    let s = c .before .before .members-of .ensures b (d .pre .0) (d .pre .2) here in
-    record { fits = omega (arith, s .there 1 (omega arith), v .0) }
-
-element-copy-out-second-2 : tie.Need-element-copy-out-second-2 Inv-loop μ-loop
-element-copy-out-second-2 c =
-    let d = c .before .before .before .before .before .before .before .before .before .before .before .before .before .before .before .before .before in
-    let b = d .args .t1 in
-    let a = d .args .t2 in
-    let v = c .before .before .before .before .before .before .before .before .before .before .before .before .before .before .loop .inv in
-    let k = c .before .before .before .before .before .before .before .before .before .before .before .before .before .before .loop .k in
-    let here = asked-here (k % 16) (b .len) _ (sym (c .before .before .before .before .before .before .before .before .before .is-asked .ensures) ∙ c .before .before .before .before .before .before .before .before .if4 .taken) in
-    let all : c .before .before .before .before .before .before .before .before .before .before .before .before .before .before .loop .planned ≡ b .len = omega (arith, v .3, c .before .before .before .before .before .before .before .before .before .before .before .if2 .left) in
-    let p = planned-at b a (d .args .ready) (c .before .before .before .before .before .before .before .before .before .before .before .before .before .before .loop .plans) (c .before .before .before .before .before .before .before .before .before .before .before .before .before .before .loop .planned) (v .6) all (k % 16) here in
-    let s = c .before .before .members-of .ensures b (d .pre .0) (d .pre .2) here in
-    omega (arith, s .there 1 (omega arith), v .0)
-
-element-copy-out-third : tie.Need-element-copy-out-third Inv-loop μ-loop
-element-copy-out-third c = search needs
-
-mul-third : tie.Need-mul-third Inv-loop μ-loop
-mul-third c =
-    let d = c .before .before .before .before .before .before .before .before .before .before .before .before .before .before .before .before .before .before .before in
-    let b = d .args .t1 in
-    let a = d .args .t2 in
-    let v = c .before .before .before .before .before .before .before .before .before .before .before .before .before .before .before .before .loop .inv in
-    let k = c .before .before .before .before .before .before .before .before .before .before .before .before .before .before .before .before .loop .k in
-    let here = asked-here (k % 16) (b .len) _ (sym (c .before .before .before .before .before .before .before .before .before .before .before .is-asked .ensures) ∙ c .before .before .before .before .before .before .before .before .before .before .if4 .taken) in
-    let all : c .before .before .before .before .before .before .before .before .before .before .before .before .before .before .before .before .loop .planned ≡ b .len = omega (arith, v .3, c .before .before .before .before .before .before .before .before .before .before .before .before .before .if2 .left) in
-    let p = planned-at b a (d .args .ready) (c .before .before .before .before .before .before .before .before .before .before .before .before .before .before .before .before .loop .plans) (c .before .before .before .before .before .before .before .before .before .before .before .before .before .before .before .before .loop .planned) (v .6) all (k % 16) here in
-    let s = c .before .before .before .before .members-of .ensures b (d .pre .0) (d .pre .2) here in
-    record { fits = omega (arith, s .there 2 (omega arith), v .0) }
-
-element-copy-out-third-2 : tie.Need-element-copy-out-third-2 Inv-loop μ-loop
-element-copy-out-third-2 c =
-    let d = c .before .before .before .before .before .before .before .before .before .before .before .before .before .before .before .before .before .before .before in
-    let b = d .args .t1 in
-    let a = d .args .t2 in
-    let v = c .before .before .before .before .before .before .before .before .before .before .before .before .before .before .before .before .loop .inv in
-    let k = c .before .before .before .before .before .before .before .before .before .before .before .before .before .before .before .before .loop .k in
-    let here = asked-here (k % 16) (b .len) _ (sym (c .before .before .before .before .before .before .before .before .before .before .before .is-asked .ensures) ∙ c .before .before .before .before .before .before .before .before .before .before .if4 .taken) in
-    let all : c .before .before .before .before .before .before .before .before .before .before .before .before .before .before .before .before .loop .planned ≡ b .len = omega (arith, v .3, c .before .before .before .before .before .before .before .before .before .before .before .before .before .if2 .left) in
-    let p = planned-at b a (d .args .ready) (c .before .before .before .before .before .before .before .before .before .before .before .before .before .before .before .before .loop .plans) (c .before .before .before .before .before .before .before .before .before .before .before .before .before .before .before .before .loop .planned) (v .6) all (k % 16) here in
-    let s = c .before .before .before .before .members-of .ensures b (d .pre .0) (d .pre .2) here in
-    omega (arith, s .there 2 (omega arith), v .0)
-
-element-copy-out-fourth : tie.Need-element-copy-out-fourth Inv-loop μ-loop
-element-copy-out-fourth c = search needs
-
-mul-fourth : tie.Need-mul-fourth Inv-loop μ-loop
-mul-fourth c =
-    let d = c .before .before .before .before .before .before .before .before .before .before .before .before .before .before .before .before .before .before .before .before .before in
-    let b = d .args .t1 in
-    let a = d .args .t2 in
-    let v = c .before .before .before .before .before .before .before .before .before .before .before .before .before .before .before .before .before .before .loop .inv in
-    let k = c .before .before .before .before .before .before .before .before .before .before .before .before .before .before .before .before .before .before .loop .k in
-    let here = asked-here (k % 16) (b .len) _ (sym (c .before .before .before .before .before .before .before .before .before .before .before .before .before .is-asked .ensures) ∙ c .before .before .before .before .before .before .before .before .before .before .before .before .if4 .taken) in
-    let all : c .before .before .before .before .before .before .before .before .before .before .before .before .before .before .before .before .before .before .loop .planned ≡ b .len = omega (arith, v .3, c .before .before .before .before .before .before .before .before .before .before .before .before .before .before .before .if2 .left) in
-    let p = planned-at b a (d .args .ready) (c .before .before .before .before .before .before .before .before .before .before .before .before .before .before .before .before .before .before .loop .plans) (c .before .before .before .before .before .before .before .before .before .before .before .before .before .before .before .before .before .before .loop .planned) (v .6) all (k % 16) here in
-    let s = c .before .before .before .before .before .before .members-of .ensures b (d .pre .0) (d .pre .2) here in
-    record { fits = omega (arith, s .there 3 (omega arith), v .0) }
-
-element-copy-out-fourth-2 : tie.Need-element-copy-out-fourth-2 Inv-loop μ-loop
-element-copy-out-fourth-2 c =
-    let d = c .before .before .before .before .before .before .before .before .before .before .before .before .before .before .before .before .before .before .before .before .before in
-    let b = d .args .t1 in
-    let a = d .args .t2 in
-    let v = c .before .before .before .before .before .before .before .before .before .before .before .before .before .before .before .before .before .before .loop .inv in
-    let k = c .before .before .before .before .before .before .before .before .before .before .before .before .before .before .before .before .before .before .loop .k in
-    let here = asked-here (k % 16) (b .len) _ (sym (c .before .before .before .before .before .before .before .before .before .before .before .before .before .is-asked .ensures) ∙ c .before .before .before .before .before .before .before .before .before .before .before .before .if4 .taken) in
-    let all : c .before .before .before .before .before .before .before .before .before .before .before .before .before .before .before .before .before .before .loop .planned ≡ b .len = omega (arith, v .3, c .before .before .before .before .before .before .before .before .before .before .before .before .before .before .before .if2 .left) in
-    let p = planned-at b a (d .args .ready) (c .before .before .before .before .before .before .before .before .before .before .before .before .before .before .before .before .before .before .loop .plans) (c .before .before .before .before .before .before .before .before .before .before .before .before .before .before .before .before .before .before .loop .planned) (v .6) all (k % 16) here in
-    let s = c .before .before .before .before .before .before .members-of .ensures b (d .pre .0) (d .pre .2) here in
-    omega (arith, s .there 3 (omega arith), v .0)
-
-element-copy-out-fifth : tie.Need-element-copy-out-fifth Inv-loop μ-loop
-element-copy-out-fifth c = search needs
-
-mul-fifth : tie.Need-mul-fifth Inv-loop μ-loop
-mul-fifth c =
-    let d = c .before .before .before .before .before .before .before .before .before .before .before .before .before .before .before .before .before .before .before .before .before .before .before in
-    let b = d .args .t1 in
-    let a = d .args .t2 in
-    let v = c .before .before .before .before .before .before .before .before .before .before .before .before .before .before .before .before .before .before .before .before .loop .inv in
-    let k = c .before .before .before .before .before .before .before .before .before .before .before .before .before .before .before .before .before .before .before .before .loop .k in
-    let here = asked-here (k % 16) (b .len) _ (sym (c .before .before .before .before .before .before .before .before .before .before .before .before .before .before .before .is-asked .ensures) ∙ c .before .before .before .before .before .before .before .before .before .before .before .before .before .before .if4 .taken) in
-    let all : c .before .before .before .before .before .before .before .before .before .before .before .before .before .before .before .before .before .before .before .before .loop .planned ≡ b .len = omega (arith, v .3, c .before .before .before .before .before .before .before .before .before .before .before .before .before .before .before .before .before .if2 .left) in
-    let p = planned-at b a (d .args .ready) (c .before .before .before .before .before .before .before .before .before .before .before .before .before .before .before .before .before .before .before .before .loop .plans) (c .before .before .before .before .before .before .before .before .before .before .before .before .before .before .before .before .before .before .before .before .loop .planned) (v .6) all (k % 16) here in
-    let s = c .before .before .before .before .before .before .before .before .members-of .ensures b (d .pre .0) (d .pre .2) here in
-    record { fits = omega (arith, s .there 4 (omega arith), v .0) }
-
-element-copy-out-fifth-2 : tie.Need-element-copy-out-fifth-2 Inv-loop μ-loop
-element-copy-out-fifth-2 c =
-    let d = c .before .before .before .before .before .before .before .before .before .before .before .before .before .before .before .before .before .before .before .before .before .before .before in
-    let b = d .args .t1 in
-    let a = d .args .t2 in
-    let v = c .before .before .before .before .before .before .before .before .before .before .before .before .before .before .before .before .before .before .before .before .loop .inv in
-    let k = c .before .before .before .before .before .before .before .before .before .before .before .before .before .before .before .before .before .before .before .before .loop .k in
-    let here = asked-here (k % 16) (b .len) _ (sym (c .before .before .before .before .before .before .before .before .before .before .before .before .before .before .before .is-asked .ensures) ∙ c .before .before .before .before .before .before .before .before .before .before .before .before .before .before .if4 .taken) in
-    let all : c .before .before .before .before .before .before .before .before .before .before .before .before .before .before .before .before .before .before .before .before .loop .planned ≡ b .len = omega (arith, v .3, c .before .before .before .before .before .before .before .before .before .before .before .before .before .before .before .before .before .if2 .left) in
-    let p = planned-at b a (d .args .ready) (c .before .before .before .before .before .before .before .before .before .before .before .before .before .before .before .before .before .before .before .before .loop .plans) (c .before .before .before .before .before .before .before .before .before .before .before .before .before .before .before .before .before .before .before .before .loop .planned) (v .6) all (k % 16) here in
-    let s = c .before .before .before .before .before .before .before .before .members-of .ensures b (d .pre .0) (d .pre .2) here in
-    omega (arith, s .there 4 (omega arith), v .0)
-
-group-of-requires : tie.Need-group-of-requires Inv-loop μ-loop
-group-of-requires c κs =
-    let d = c .before .before .before .before .before .before .before .before .before .before .before .before .before .before .before .before .before .before .before .before .before .before .before .before in
-    let b = d .args .t1 in
-    let a = d .args .t2 in
-    let v = c .before .before .before .before .before .before .before .before .before .before .before .before .before .before .before .before .before .before .before .before .before .loop .inv in
-    let k = c .before .before .before .before .before .before .before .before .before .before .before .before .before .before .before .before .before .before .before .before .before .loop .k in
-    let here = asked-here (k % 16) (b .len) _ (sym (c .before .before .before .before .before .before .before .before .before .before .before .before .before .before .before .before .is-asked .ensures) ∙ c .before .before .before .before .before .before .before .before .before .before .before .before .before .before .before .if4 .taken) in
-    let all : c .before .before .before .before .before .before .before .before .before .before .before .before .before .before .before .before .before .before .before .before .before .loop .planned ≡ b .len = omega (arith, v .3, c .before .before .before .before .before .before .before .before .before .before .before .before .before .before .before .before .before .before .if2 .left) in
-    let p = planned-at b a (d .args .ready) (c .before .before .before .before .before .before .before .before .before .before .before .before .before .before .before .before .before .before .before .before .before .loop .plans) (c .before .before .before .before .before .before .before .before .before .before .before .before .before .before .before .before .before .before .before .before .before .loop .planned) (v .6) all (k % 16) here in
-    resource-of b (d .pre .0) (k % 16) here .few
-
-later-requires : tie.Need-later-requires Inv-loop μ-loop
-later-requires c κs = search needs
-
-with-companions-requires : tie.Need-with-companions-requires Inv-loop μ-loop
-with-companions-requires c κs =
-    let d = c .before .before .before .before .before .before .before .before .before .before .before .before .before .before .before .before .before .before .before .before .before .before .before .before .before .before in
-    let b = d .args .t1 in
-    let a = d .args .t2 in
-    let v = c .before .before .before .before .before .before .before .before .before .before .before .before .before .before .before .before .before .before .before .before .before .before .before .loop .inv in
-    let k = c .before .before .before .before .before .before .before .before .before .before .before .before .before .before .before .before .before .before .before .before .before .before .before .loop .k in
-    let here = asked-here (k % 16) (b .len) _ (sym (c .before .before .before .before .before .before .before .before .before .before .before .before .before .before .before .before .before .before .is-asked .ensures) ∙ c .before .before .before .before .before .before .before .before .before .before .before .before .before .before .before .before .before .if4 .taken) in
-    let all : c .before .before .before .before .before .before .before .before .before .before .before .before .before .before .before .before .before .before .before .before .before .before .before .loop .planned ≡ b .len = omega (arith, v .3, c .before .before .before .before .before .before .before .before .before .before .before .before .before .before .before .before .before .before .before .before .if2 .left) in
-    let p = planned-at b a (d .args .ready) (c .before .before .before .before .before .before .before .before .before .before .before .before .before .before .before .before .before .before .before .before .before .before .before .loop .plans) (c .before .before .before .before .before .before .before .before .before .before .before .before .before .before .before .before .before .before .before .before .before .before .before .loop .planned) (v .6) all (k % 16) here in
-    let s = seated b (d .pre .0) a (d .args .ready) (d .pre .1) (k % 16) here _ p _ (c .before .before .before .before .before .before .before .before .before .before .before .members-of .ensures b (d .pre .0) (d .pre .2) here) in
-    let w = ranges b (d .pre .0) a (d .args .ready) (d .pre .1) (k % 16) here _ p in
-    let q = requirementAt a (k / 16) in
-    let g = c .before .group-of .ensures in
-    let u = used-some a (d .args .ready) (k / 16) (d .pre .1) (omega (arith, v .1, v .2)) (omega (arith, c .before .before .before .before .before .before .before .before .before .before .before .before .before .before .before .before .before .before .before .if3 .taken)) in
-    let t = c .before .before .before .before .before .before .before .before .before .before .before .before .before .before .before .before .before .before .before .before .before .before .before .loop .inv .7 .goes (not-true _ (c .before .before .before .before .before .before .before .before .before .before .before .before .before .before .before .before .before .before .before .before .before .if1 .taken)) .1 in
-    (λ e. (rw g (omega (arith, resource-of b (d .pre .0) (k % 16) here .few)), rw g (seated-wanted b (d .pre .0) (k % 16) here (q .usage) (c .before .before .before .before .before .before .before .before .before .before .before .members-of .result) s u)), w .0, omega (arith, c .later .ensures, w .1, t))
+answered-requires : tie.Need-answered-requires Inv-loop μ-loop
+answered-requires c κs = omega (arith, next (c .before .before) .go .few, resource-of (c .before .before .before .before .before .before .before .before .before .before .before .before .before .before .args .t1) (c .before .before .before .before .before .before .before .before .before .before .before .before .before .before .pre .0) (c .before .before .before .before .before .before .before .before .before .before .loop .k % 16) (next (c .before .before) .here) .few)
 
 mul-asked : tie.Need-mul-asked Inv-loop μ-loop
-mul-asked c = search needs
+mul-asked c = record { fits = omega (arith, c .before .before .before .before .before .before .before .before .before .before .before .before .before .before .loop .inv .four, c .before .before .before .before .before .before .before .before .before .before .if3 .left) }
 
 array-write-asked : tie.Need-array-write-asked Inv-loop μ-loop
-array-write-asked c =
-    let v = c .before .before .before .before .before .before .before .before .before .before .loop .inv in
-    omega (arith, v .1, v .8 .asked-long)
-
-number-of-requires : tie.Need-number-of-requires Inv-loop μ-loop
-number-of-requires c κs = search needs
+array-write-asked c = omega (arith, c .before .before .before .before .before .before .before .before .before .before .before .before .before .before .loop .inv .four, c .before .before .before .before .before .before .before .before .before .before .if3 .left)
 
 mul-starts : tie.Need-mul-starts Inv-loop μ-loop
-mul-starts c = search needs
+mul-starts c = record { fits = omega (arith, c .before .before .before .before .before .before .before .before .before .before .before .before .before .before .loop .inv .four, c .before .before .before .before .before .before .before .before .before .before .if3 .left) }
 
 array-write-starts : tie.Need-array-write-starts Inv-loop μ-loop
-array-write-starts c =
-    let v = c .before .before .before .before .before .before .before .before .before .before .before .loop .inv in
-    omega (arith, v .1, v .8 .starts-long)
+array-write-starts c = omega (arith, c .before .before .before .before .before .before .before .before .before .before .before .before .before .before .loop .inv .four, c .before .before .before .before .before .before .before .before .before .before .if3 .left)
 
-add-k : tie.Need-add-k Inv-loop μ-loop
-add-k c = search needs
-
-loop-less-2 : tie.Need-loop-less-2 Inv-loop μ-loop
-loop-less-2 c = search needs
-
-loop-again-2 : tie.Need-loop-again-2 Inv-loop μ-loop
+-- what it answers
+told : (c : tie.After-answered Inv-loop μ-loop)
+    → Told (c .before .before .before .before .before .before .before .before .before .before .before .before .before .before .before .args .t1) (c .before .before .before .before .before .before .before .before .before .before .before .before .before .before .before .args .t2) (c .before .before .before .before .before .before .before .before .before .before .before .before .before .before .before .args .ready) (c .before .before .before .before .before .before .before .before .before .before .before .loop .k % 16) (c .before .before .before .before .before .before .before .before .before .before .before .loop .x .instant) (requirementAt (c .before .before .before .before .before .before .before .before .before .before .before .before .before .before .before .args .t2) (c .before .before .before .before .before .before .before .before .before .before .before .loop .k / 16)) (c .before .before .before .before .before .before .before .before .before .before .before .loop .g) (c .answered .result)
 unfolding startOf
-loop-again-2 c =
-    let d = c .before .before .before .before .before .before .before .before .before in
-    let b = d .args .t1 in
-    let a = d .args .t2 in
-    let v = c .before .before .before .before .before .before .loop .inv in
-    let k = c .before .before .before .before .before .before .loop .k in
-    let x = c .before .before .before .before .before .before .loop .x in
-    let asked = c .before .before .before .before .before .before .loop .asked in
-    let starts = c .before .before .before .before .before .before .loop .starts in
-    let q = requirementAt a (k / 16) in
-    let there = c .before .before .if3 .taken in
-    let all : c .before .before .before .before .before .before .loop .planned ≡ b .len = omega (arith, v .3, c .before .before .before .if2 .left) in
-    let w : Kept b a (d .args .ready) (c .if4 .asked) (c .if4 .starts) × Through b a (d .args .ready) (x .instant) (c .if4 .starts) (k + 1) =
-    ⊎-elim
-    (λ u.
-    let here = asked-here (k % 16) (b .len) _ (sym (c .before .is-asked .ensures) ∙ u .0 .taken) in
-    let p = planned-at b a (d .args .ready) (c .before .before .before .before .before .before .loop .plans) (c .before .before .before .before .before .before .loop .planned) (v .6) all (k % 16) here in
-    let f : startOf (u .4 .s) ≡ foundAt b a (d .args .ready) q (x .instant) (k % 16) =
-    ⊎-elim
-    (λ y.
-    rw (y .15) (y .14 .ensures ∙ rw (y .12 .ensures, y .13 .ensures) (found-asked b (d .pre .0) a (d .args .ready) (d .pre .1) (k % 16) here _ p q (x .instant) (sym (u .3 .ensures) ∙ y .0 .taken) (y .2 .result) (y .2 .ensures b (d .pre .0) (d .pre .2) here))))
-    (λ y. rw (y .1) (found-idle b (d .pre .0) a (d .args .ready) (d .pre .1) (k % 16) here _ p q (x .instant) (sym (u .3 .ensures) ∙ y .0 .left)))
-    (u .4 .came) in
-    rw (u .6, u .7, u .5 .ensures) (kept-asked b (d .pre .0) (omega (arith, v .0)) a (d .args .ready) (d .pre .1) (x .instant) asked starts (v .8) k there (v .9) (omega (arith, v .1)) (startOf (u .4 .s)) here f, through-asked b (d .pre .0) (omega (arith, v .0)) a (d .args .ready) (d .pre .1) (x .instant) asked starts (v .8) k there (v .9) (omega (arith, v .1)) (startOf (u .4 .s)) here f))
-    (λ u. rw (u .1, u .2) (v .8, cell-known b (d .pre .0) (omega (arith, v .0)) a (d .args .ready) (d .pre .1) (x .instant) asked starts (v .8) k there (v .9) (sym (c .before .is-asked .ensures) ∙ u .0 .left)))
-    (c .if4 .came) in
-    (v .0, v .1, v .2, v .3, omega arith, v .5, v .6, v .7, w .0, w .1)
-
-settled-requires : tie.Need-settled-requires Inv-loop μ-loop
-settled-requires c κs =
-    let d = c .before .before .before .before .before .before .before in
-    let v = c .before .before .before .before .loop .inv in
-    (v .0, (d .args .ready, d .pre .1), v .7 .goes (not-true _ (c .before .before .if1 .taken)) .0)
+told c =
+    let d = c .before .before .before .before .before .before .before .before .before .before .before .before .before .before .before in
+    let n = next (c .before .before .before) in
+    let e = c .before .before .member-of .ensures in
+    rw (c .answered .ensures)
+    (⊎-elim
+    (λ y. told-asked _ _ _ _ _ _ (d .pre .0) (d .pre .1) (d .args .places) (d .pre .3) _ _ n _ e (y .0 .taken) _ (ap startOf (y .4) ∙ y .3 .ensures))
+    (λ y. rw (y .1) (told-nowhere _ _ _ _ _ _ (d .pre .0) (d .pre .1) (d .args .places) (d .pre .3) _ _ n _ e (y .0 .left)))
+    (c .before .if5 .came))
 
 loop-less-3 : tie.Need-loop-less-3 Inv-loop μ-loop
 loop-less-3 c =
-    let v = c .before .before .before .before .before .loop .inv in
-    omega (arith, c .settled .ensures .0, v .7 .goes (not-true _ (c .before .before .before .if1 .taken)) .0)
+    let d = c .before .before .before .before .before .before .before .before .before .before .before .before .before .before .before .before .before .before in
+    let u = c .before .before .before .before .before .before .before .before .before .before .before .before .before .before .loop in
+    let n = next (c .before .before .before .before .before .before) in
+    left-asked (d .args .t1) (d .pre .0) (d .args .t2) (d .args .ready) (d .pre .1) (d .pre .2) (u .plans) (u .asked) (u .starts) (u .x) (u .g) (u .planned) (u .k) (u .inv) (not-true _ (c .before .before .before .before .before .before .before .before .before .before .before .before .if1 .taken)) (c .before .before .before .before .before .before .before .before .before .before .if3 .left) (n .here) (c .before .before .before .answered .result) (told (c .before .before .before))
 
 loop-again-3 : tie.Need-loop-again-3 Inv-loop μ-loop
 loop-again-3 c =
-    let d = c .before .before .before .before .before .before .before .before in
-    let b = d .args .t1 in
-    let a = d .args .t2 in
-    let v = c .before .before .before .before .before .loop .inv in
-    let x = c .before .before .before .before .before .loop .x in
-    let g = v .7 .goes (not-true _ (c .before .before .before .if1 .taken)) in
-    let all : c .before .before .before .before .before .loop .planned ≡ b .len = omega (arith, v .3, c .before .before .if2 .left) in
-    let e = c .settled .ensures in
-    (v .0, v .1, v .2, v .3, omega arith, omega (arith, e .0, g .0), v .6, e .1 b (d .args .ready) (record { right = d .pre .0; accepted = d .pre .1; all = refl; planned = subst (λ (n : ℕ). Planned b a (d .args .ready) n (c .before .before .before .before .before .loop .plans)) all (v .6); soon = g .1; so = λ j i m n. v .9 j i m n (omega (arith, c .before .if3 .left, v .0)) }) (g .2), v .8, through-start b a (d .args .ready) (c .settled .result .instant) (c .before .before .before .before .before .loop .starts))
+    let d = c .before .before .before .before .before .before .before .before .before .before .before .before .before .before .before .before .before .before in
+    let u = c .before .before .before .before .before .before .before .before .before .before .before .before .before .before .loop in
+    let n = next (c .before .before .before .before .before .before) in
+    let e = count-is _ _ _ _ _ _ (d .pre .0) (d .pre .1) (d .args .places) (d .pre .3) _ _ n in
+    state-found (d .args .t1) (d .pre .0) (d .args .t2) (d .args .ready) (d .pre .1) (d .pre .2) (u .plans) (u .asked) (u .starts) (u .x) (u .g) (u .planned) (u .k) (u .inv) (not-true _ (c .before .before .before .before .before .before .before .before .before .before .before .before .if1 .taken)) (c .before .before .before .before .before .before .before .before .before .before .if3 .left) (n .here) (c .before .before .before .answered .result) (told (c .before .before .before)) (omega (arith, c .if6 .taken))
+
+loop-less-4 : tie.Need-loop-less-4 Inv-loop μ-loop
+loop-less-4 c =
+    let d = c .before .before .before .before .before .before .before .before .before .before .before .before .before .before .before .before .before .before in
+    let u = c .before .before .before .before .before .before .before .before .before .before .before .before .before .before .loop in
+    let n = next (c .before .before .before .before .before .before) in
+    left-asked (d .args .t1) (d .pre .0) (d .args .t2) (d .args .ready) (d .pre .1) (d .pre .2) (u .plans) (u .asked) (u .starts) (u .x) (u .g) (u .planned) (u .k) (u .inv) (not-true _ (c .before .before .before .before .before .before .before .before .before .before .before .before .if1 .taken)) (c .before .before .before .before .before .before .before .before .before .before .if3 .left) (n .here) (c .before .before .before .answered .result) (told (c .before .before .before))
+
+loop-again-4 : tie.Need-loop-again-4 Inv-loop μ-loop
+loop-again-4 c =
+    let d = c .before .before .before .before .before .before .before .before .before .before .before .before .before .before .before .before .before .before in
+    let u = c .before .before .before .before .before .before .before .before .before .before .before .before .before .before .loop in
+    let n = next (c .before .before .before .before .before .before) in
+    let e = count-is _ _ _ _ _ _ (d .pre .0) (d .pre .1) (d .args .places) (d .pre .3) _ _ n in
+    state-on (d .args .t1) (d .pre .0) (d .args .t2) (d .args .ready) (d .pre .1) (d .pre .2) (u .plans) (u .asked) (u .starts) (u .x) (u .g) (u .planned) (u .k) (u .inv) (not-true _ (c .before .before .before .before .before .before .before .before .before .before .before .before .if1 .taken)) (c .before .before .before .before .before .before .before .before .before .before .if3 .left) (n .here) (c .before .before .before .answered .result) (told (c .before .before .before)) (omega (arith, c .if6 .left))
+
+unasked-requires-2 : tie.Need-unasked-requires-2 Inv-loop μ-loop
+unasked-requires-2 c κs = search needs
+
+add-k : tie.Need-add-k Inv-loop μ-loop
+add-k c = record { fits = omega (arith, c .before .before .before .before .before .before .before .loop .inv .four, c .before .before .before .if3 .left) }
+
+loop-less-5 : tie.Need-loop-less-5 Inv-loop μ-loop
+loop-less-5 c =
+    let d = c .before .before .before .before .before .before .before .before .before .before .before in
+    let u = c .before .before .before .before .before .before .before .loop in
+    rw (c .unasked2 .ensures)
+    (left-known (d .args .t1) (d .pre .0) (d .args .t2) (d .args .ready) (d .pre .1) (d .pre .2) (u .plans) (u .asked) (u .starts) (u .x) (u .g) (u .planned) (u .k) (u .inv) (not-true _ (c .before .before .before .before .before .if1 .taken)) (c .before .before .before .if3 .left))
+
+loop-again-5 : tie.Need-loop-again-5 Inv-loop μ-loop
+loop-again-5 c =
+    let d = c .before .before .before .before .before .before .before .before .before .before .before in
+    let u = c .before .before .before .before .before .before .before .loop in
+    rw (c .unasked2 .ensures)
+    (state-known (d .args .t1) (d .pre .0) (d .args .t2) (d .args .ready) (d .pre .1) (d .pre .2) (u .plans) (u .asked) (u .starts) (u .x) (u .g) (u .planned) (u .k) (u .inv) (not-true _ (c .before .before .before .before .before .if1 .taken)) (c .before .before .before .if3 .left) (sym (c .before .before .is-asked .ensures) ∙ c .before .if4 .left))
 
 returns : tie.Need-returns Inv-loop μ-loop
 returns c =
-    let v = c .before .before .before .loop .inv in
-    let s = v .7 in
+    let s = c .before .before .before .loop .inv .settled in
     (s .ends (not-false _ (c .before .if1 .left)), s .soon, s .chosen)
 
 pub choose-spec : {M : Type 1} → statement M
@@ -414,6 +264,7 @@ choose-spec =
     μ-loop
     no-plans-requires
     begun-requires
+    unasked-requires
     loop-holds
     mul-r
     element-copy-out-r
@@ -424,6 +275,9 @@ choose-spec =
     loop-less
     loop-again
     mul-if3
+    settled-requires
+    loop-less-2
+    loop-again-2
     mul-is-asked
     array-read-is-asked
     mul-is-asked-2
@@ -433,34 +287,21 @@ choose-spec =
     element-copy-out-q
     mul-p
     array-copy-out-p
-    serves-requires
-    members-of-requires
-    mul-first
-    element-copy-out-first
-    element-copy-out-second
-    mul-second
-    element-copy-out-second-2
-    element-copy-out-third
-    mul-third
-    element-copy-out-third-2
-    element-copy-out-fourth
-    mul-fourth
-    element-copy-out-fourth-2
-    element-copy-out-fifth
-    mul-fifth
-    element-copy-out-fifth-2
-    group-of-requires
-    later-requires
-    with-companions-requires
+    member-of-requires
+    mul-r-2
+    element-copy-out-r-2
+    start-on-requires
+    answered-requires
     mul-asked
     array-write-asked
-    number-of-requires
     mul-starts
     array-write-starts
-    add-k
-    loop-less-2
-    loop-again-2
-    settled-requires
     loop-less-3
     loop-again-3
+    loop-less-4
+    loop-again-4
+    unasked-requires-2
+    add-k
+    loop-less-5
+    loop-again-5
     returns)

@@ -21,17 +21,18 @@ use Rattle.scheduler.specs.declared.Entry.{Entry}
 use Rattle.scheduler.specs.Alone.{Share, earliestOf}
 use Rattle.scheduler.specs.Fitting.{sharesOf}
 use Rattle.scheduler.specs.Shares.{startOn, shareAt, sharesTo}
+use Rattle.scheduler.specs.Events.{above}
 use Rattle.scheduler.specs.Owning.{ownShare}
-use Rattle.scheduler.specs.Asking.{Asked, asked-start, asked-on, asked-none, asked-less, asked-all}
+use Rattle.scheduler.specs.Asking.{Asked, asked-start, asked-on, asked-none, asked-listed, asked-less, listed-among, asked-all}
 use Rattle.fitting.specs.Jointly.{fitOf}
-use Rattle.fitting.proofs.Reading.{Asks, diaries, wants, asks-own, asks-shares, asks-wanted, number-small, place-small, read-diary, read-units, own-diary, own-units}
+use Rattle.fitting.proofs.Reading.{Asks, those, diaries, wants, instants, asks-own, asks-shares, asks-wanted, number-small, place-small, read-diary, read-units, own-diary, own-units}
 
 abbrev Inv-loop : tie.InvT-loop
 Inv-loop span from b e places first n t₀ i₀ t i =
     Asks b (e .entries) (e .count) places first × (n ≡ e .count + 1) × Asked false span (diaries b (e .entries) (e .count) first) (wants b (e .entries) (e .count) first) (e .count + 1) from t i
 
 abbrev μ-loop : tie.MeasureT-loop
-μ-loop span from b e places first n t₀ i₀ t i = (2 ^ 43 - t) * 32 + (e .count + 1 - i)
+μ-loop span from b e places first n t₀ i₀ t i = above (instants b (e .entries) (e .count) first) t * 32 + (e .count + 1 - i)
 
 start-read : (d : ResourceTimeline) (u t span : ℕ) (ts : List ResourceTimeline) (us : List ℕ) (i : ℕ) → d ≡ getD ts i noDiary → u ≡ getD us i 0 → (f : Found) → earliestFit d t span u ≡ f → startOn false span (shareAt ts us i) t ≡ f
 unfolding startOn
@@ -136,7 +137,8 @@ loop-less c =
     let us = wants (a .t1) (a .t2 .entries) (a .t2 .count) first in
     let e = start-read _ _ (k .t) (a .span) ts us (k .i) (j .0) (j .1) _ (sym (c .before .before .before .before .earliest-fit .ensures) ∙ ap startOf (s .1)) in
     let w = asks-wanted (a .t1) (a .t2 .entries) (a .t2 .count) first (a .t3) (k .inv .0) in
-    rw (c .next-asked .ensures) (asked-less false (a .span) ts us (a .t2 .count + 1) (a .from) (k .t) (k .i) w (k .inv .2) l (s .0 .0) (omega (arith, k .inv .0 .few)) e)
+    let x = asked-listed false (a .span) ts us (a .t2 .count + 1) (a .from) (k .t) (k .i) w (k .inv .2) l (s .0 .0) e in
+    rw (c .next-asked .ensures) (asked-less (instants (a .t1) (a .t2 .entries) (a .t2 .count) first) (a .t2 .count + 1) (k .t) (k .t) (k .i) (s .0 .0) (omega (arith, k .inv .0 .few)) l (omega arith) (x .0) (listed-among (those (a .t1) (a .t2 .entries) (a .t2 .count) first) (k .i) (k .t) (s .0 .0) (x .1)))
 
 loop-again : tie.Need-loop-again Inv-loop μ-loop
 unfolding startOf

@@ -86,7 +86,7 @@ choose-requires c κs =
     let x = accepted (a .a) (a .ready) (o .2) in
     let from : c .before .before .before .before .before .ready-of .result ≡ readyOf (a .a .release) (a .ready) = c .before .before .before .before .before .ready-of .ensures in
     let w : activityRefusal (a .a) (c .before .before .before .before .before .ready-of .result) ≡ 0 = rw from (ready-lawful (a .a) (a .ready) (o .2)) in
-    (v .0, w, λ n l. c .before .before .before .before .before .before .before .before .before .before .before .before .places-of .ensures .1 n l (v .0))
+    (v .0, w, omega (arith, c .if3 .taken), λ n l. c .before .before .before .before .before .before .before .before .before .before .before .before .places-of .ensures .1 n l (v .0))
 
 returns-3 : tie.Need-returns-3
 unfolding told slateAfter

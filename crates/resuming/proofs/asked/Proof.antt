@@ -4,7 +4,8 @@ use Rattle.resuming.proofs.asked.Statement.{statement}
 use Rattle.resuming.proofs.asked.Tie as tie
 use mathlib.Core.Path.{_≡_, ap, _∙_}
 use mathlib.Core.Bool.{_&&_}
-use mathlib.Core.Logic.{⊎-elim}
+use mathlib.Core.Logic.{inl, inr, ⊎-elim}
+use Prim.Native.Nat.{_^_}
 use native.Mathlib.Omega.{arith}
 use Rattle.timeline.specs.Earliest.{freeOn}
 use Rattle.timeline.proofs.Stepping.{next-still}
@@ -28,7 +29,7 @@ returns c =
     let j = joined (c .before .before .before) in
     let n = c .before .before .next-candidate .ensures .next in
     let l = c .if2 .taken in
-    ((j .0, j .1, j .2, j .3), (n .above, omega arith, λ y p q. next-still _ _ _ y n p q))
+    ((j .0, j .1, j .2, j .3), (n .above, omega arith, λ y p q. next-still _ _ _ y n p q, inr (⊎-elim (λ (z : c .before .before .next-candidate .result ≡ 2 ^ 63). absurd (omega (arith, c .before .before .before .before .pre .2))) (λ z. z) (c .before .before .next-candidate .ensures .is))))
 
 returns-2 : tie.Need-returns-2
 returns-2 c =
@@ -36,7 +37,7 @@ returns-2 c =
     let j = joined (c .before .before .before) in
     let n = c .before .before .next-candidate .ensures .next in
     let l = c .if2 .left in
-    ((j .0, j .1, j .2, j .3), (omega (arith, j .4, q .1), omega (arith, j .4), λ y p q. next-still _ _ (c .before .before .next-candidate .result) y n p (omega (arith, j .4))))
+    ((j .0, j .1, j .2, j .3), (omega (arith, j .4, q .1), omega (arith, j .4), λ y p q. next-still _ _ (c .before .before .next-candidate .result) y n p (omega (arith, j .4)), inl (j .4)))
 
 pub asked-spec : {M : Type 1} → statement M
 asked-spec = tie.close (tie.spec is-free-requires next-candidate-requires returns returns-2)

@@ -1,3 +1,0 @@
--- The proofs of the functions.
-pub mod Knowing
-pub mod Seating

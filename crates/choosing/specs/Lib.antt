@@ -1,0 +1,2 @@
+-- Who is asked next.
+pub mod Members

@@ -1,0 +1,11 @@
+-- How far the asking of several diaries has come.
+use Prim.Native.Nat.{ℕ, _^_}
+use lib.Dec.{eqb}
+use Rattle.calendar.specs.Search.{Found, nothing, at}
+use Rattle.scheduler.specs.Asking.{nextAsked}
+use Rattle.together.specs.declared.Asking.{Asking}
+
+-- after the i-th has answered, asked from an instant on; where it has no start, nobody is left to ask
+unfoldable pub answeredBy : ℕ → ℕ → Found → Asking
+answeredBy i from (at x) = record { start = x; next = nextAsked i (eqb x from) }
+answeredBy i from nothing = record { start = 2 ^ 63; next = 5 }
