@@ -38,8 +38,8 @@ use Rattle.together.specs.declared.Asking.{Asking}
 use Rattle.together.specs.Steps.{answeredBy}
 use Rattle.answering.specs.Tables.{foundAt, numberOf, requirementAt}
 use Rattle.answering.proofs.Finding.{span-range, arrival-range}
-use Rattle.choosing.specs.declared.Member.{Member}
-use Rattle.choosing.specs.Members.{memberOf}
+use Rattle.members.specs.declared.Member.{Member}
+use Rattle.members.specs.Members.{memberOf}
 
 -- who is asked is on the board
 pub asked-here : (i n : ℕ) (c : Bool) → ltb i n && c ≡ true → i < n

@@ -1,54 +1,17 @@
 // Choosing: the instant at which every requirement has enough resources that can start then, and those held (the first half of
 // `place_activity` in scheduler/simple.rs; 01, 'Choosing').
 use activity::Activity;
-use activity::ResourceRequirement;
 use board::Board;
 use earliest::Start;
-use plans::Plan;
 use rounds::Choice;
-use together::Asking;
 ghost use mathlib.Core.Path.{_≡_};
 ghost use mathlib.Core.Bool.{true};
-ghost use Prim.Native.Nat.{ℕ, _^_, _≤_, _<_};
-ghost use lib.ListN.{getD};
+ghost use Prim.Native.Nat.{_^_, _≤_};
 ghost use Rattle.activity.specs.Check.{activityRefusal};
 ghost use Rattle.board.specs.Valid.{valid};
 ghost use Rattle.scheduler.specs.Choosing.{choosing};
 ghost use Rattle.seats.specs.Seats.{Known};
 ghost use Rattle.rounds.specs.Rounds.{choiceOf, Chosen};
-ghost use Rattle.choosing.specs.Members.{memberOf};
-
-// The one of a resource and its companions that is asked next, by its place on the board: the units wanted of it, and from when on. The
-// place is 16 where the resource does not serve, or a companion is not on the board.
-struct Member {
-    place: usize,
-    units: u32,
-    from: u64,
-}
-
-fn member_of(
-    q: ResourceRequirement,
-    p: Plan,
-    own: usize,
-    places: [usize; 16],
-    t: u64,
-    g: Asking,
-) -> Member
-    requires { ⌜ (p .number < 16) × (p .count ≤ 4) × ((k : ℕ) → k < p .count → getD (p .companions) k 0 ≤ 15) ⌝ }
-    ensures { λ r. ⌜ r ≡ memberOf q p own places t g ⌝ }
-{
-    let companions = p.companions;
-    let mut place: usize = 16;
-    if activity::core::serves(q, p.number, p.kind, p.skills) {
-        place = seats::seat_of(own, companions, p.count, places, g.next);
-    }
-    let from = columns::later(t, p.arrival);
-    Member {
-        place: place,
-        units: if 0 < g.next { 1 } else { q.usage },
-        from: columns::later(from, g.start),
-    }
-}
 
 // One pass over the board for the plans, then rounds until t stays: in each, what the resources answer to each requirement from t on is
 // asked where it is not known, with their companions one after another. The board is read here alone.
@@ -74,7 +37,7 @@ pub fn choose(b: Board, a: Activity, ready: u64, places: [usize; 16]) -> Choice
         } else if answering::is_asked(k % 16, b.len, asked[k], starts[k], x.instant) {
             let q = a.requirements[k / 16];
             let p = plans[k % 16];
-            let m = member_of(q, p, k % 16, places, x.instant, g);
+            let m = members::member_of(q, p, k % 16, places, x.instant, g);
             let place = m.place;
             let mut s = Start::Nothing;
             if place < 16 {

@@ -1,6 +1,6 @@
--- `choosing::member_of` meets its contract.
-use Rattle.choosing.proofs.member_of.Statement.{statement}
-use Rattle.choosing.proofs.member_of.Tie as tie
+-- `members::member_of` meets its contract.
+use Rattle.members.proofs.member_of.Statement.{statement}
+use Rattle.members.proofs.member_of.Tie as tie
 use borrow.Author.Needs.{needs}
 use borrow.Author.Tests.{lt-ltb, le-ltb}
 use mathlib.Core.Path.{_≡_, refl, sym, _∙_}
@@ -10,7 +10,7 @@ use lib.ListN.{take}
 use lib.Dec.{ltb}
 use Rattle.activity.specs.Serving.{serves}
 use Rattle.seats.specs.Seats.{seatOf}
-use Rattle.choosing.specs.Members.{memberOf}
+use Rattle.members.specs.Members.{memberOf}
 
 serves-requires : tie.Need-serves-requires
 serves-requires c κs = search needs

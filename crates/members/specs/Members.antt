@@ -9,7 +9,7 @@ use Rattle.activity.specs.Serving.{serves}
 use Rattle.plans.specs.declared.Plan.{Plan}
 use Rattle.seats.specs.Seats.{seatOf}
 use Rattle.together.specs.declared.Asking.{Asking}
-use Rattle.choosing.specs.declared.Member.{Member}
+use Rattle.members.specs.declared.Member.{Member}
 
 -- the resource itself with the requirement's usage, a companion with one unit; from the later of t and the arrival, or from the start that
 -- those in front have given
