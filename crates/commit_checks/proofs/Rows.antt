@@ -10,7 +10,7 @@ use lib.Dec.{leb, ltb, eqb}
 use lib.Seq.{getD-set-same, getD-set-other}
 use borrow.Author.Tests.{ltb-true, lt-ltb, le-ltb, lt-leb, le-leb, eq-eqb, eqb-true}
 use Rattle.calendar.specs.Basics.{and-split, and-false, same-or-not}
-use Rattle.activity.specs.Check.{every}
+use Rattle.calendar.specs.Every.{every}
 use Rattle.board.specs.declared.Board.{Board}
 use Rattle.board.specs.Resources.{isAt, onBoard}
 use Rattle.board.specs.Valid.{valid}

@@ -16,7 +16,8 @@ use Rattle.timeline.proofs.Meaning.{Earliest}
 use Rattle.activity.specs.declared.ResourceRequirement.{ResourceRequirement}
 use Rattle.activity.specs.declared.Activity.{Activity}
 use Rattle.activity.specs.Serving.{serves}
-use Rattle.activity.specs.Check.{every, requirementsOf}
+use Rattle.calendar.specs.Every.{every}
+use Rattle.activity.specs.Check.{requirementsOf}
 use Rattle.board.specs.declared.Resource.{Resource}
 use Rattle.board.specs.declared.Board.{Board}
 use Rattle.board.specs.Resources.{resourcesOf, onBoard}

@@ -19,7 +19,7 @@ use Rattle.timeline.proofs.Rules as timeline-rules
 use Rattle.timeline.proofs.Rows.{count}
 use Rattle.timeline.proofs.Keeping.{booked-keeps, length-inserted, bookings-diary}
 use Rattle.timeline.proofs.Meaning.{times}
-use Rattle.activity.specs.Check.{every}
+use Rattle.calendar.specs.Every.{every}
 use Rattle.board.specs.declared.LastCategory.the-variants.{Category}
 use Rattle.board.specs.declared.Resource.{Resource}
 use Rattle.board.specs.declared.Board.{Board}

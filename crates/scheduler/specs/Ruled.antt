@@ -16,7 +16,7 @@ use Rattle.timeline.specs.Valid as timeline
 use Rattle.timeline.proofs.Rules as timeline-rules
 use Rattle.activity.specs.declared.ResourceRequirement.{ResourceRequirement}
 use Rattle.activity.specs.declared.Activity.{Activity}
-use Rattle.activity.specs.Check.{every}
+use Rattle.calendar.specs.Every.{every}
 use Rattle.board.specs.declared.Resource.{Resource}
 use Rattle.board.specs.declared.Board.{Board}
 use Rattle.board.specs.Resources.{noResource, resourcesOf, resourceAt, lookup, isAt, onBoard}

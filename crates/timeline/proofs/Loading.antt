@@ -4,14 +4,14 @@ use mathlib.Core.Bool.{Bool, true, false, _&&_, cond}
 use mathlib.Core.List.{List, [], _∷_}
 use mathlib.Core.Logic.{_⊎_, inl, inr, ⊎-elim}
 use Prim.Native.Nat.{ℕ, zero, suc, _+_, _-_, _≤_, _<_, max}
-use native.Mathlib.Nat.{eq-or-lt-of-le}
 use native.Mathlib.Omega.{arith}
 use lib.ListN.{getD, length}
 use lib.Dec.{leb, ltb}
 use borrow.Author.Tests.{leb-true, ltb-true, le-leb, lt-ltb}
-use Rattle.calendar.specs.Basics.{and-split, and-join, no-way, not-both, lt-or-ge}
+use Rattle.calendar.specs.Basics.{and-split, no-way, not-both, lt-or-ge}
+use Rattle.calendar.specs.Every.{from-at, from-all}
 use Rattle.timeline.specs.Bookings.{Booking}
-use Rattle.timeline.specs.Free.{overlaps, onAt, load, roomAt, roomFrom, free}
+use Rattle.timeline.specs.Free.{overlaps, onAt, load, roomAt, free}
 use Rattle.timeline.specs.Steps.{overlapping}
 use Rattle.timeline.proofs.Rows.{none}
 
@@ -137,26 +137,10 @@ every-instant cap bs u s e few at0 f = record {
         (λ k l o. record { starts = o .starts; ends = o .ends; from = last-max bs s p k l (o .from); to = omega (arith, last-to bs s p a, o .to) }) in
         omega arith
 
-room-all : (cap : ℕ) (bs : List Booking) (u s e p k : ℕ) → ((q : ℕ) → p ≤ q → q < p + k → load bs s e q + u ≤ cap) → roomFrom cap bs u s e p k ≡ true
-unfolding roomFrom
-room-all cap bs u s e p zero f = refl
-room-all cap bs u s e p (suc k) f =
-    and-join _ _ (le-leb _ _ (f p (omega arith) (omega arith))) (room-all cap bs u s e (suc p) k (λ q h l. f q (omega arith) (omega arith)))
-
-room-at : (cap : ℕ) (bs : List Booking) (u s e p k : ℕ) → roomFrom cap bs u s e p k ≡ true → (q : ℕ) → p ≤ q → q < p + k → load bs s e q + u ≤ cap
-unfolding roomFrom
-room-at cap bs u s e p zero h q a l = absurd (omega arith)
-room-at cap bs u s e p (suc k) h q a l =
-    let w = and-split (roomAt cap bs u s e p) (roomFrom cap bs u s e (suc p) k) h in
-    ⊎-elim
-    (λ (x : p ≡ q). rw (← x) (leb-true _ _ (w .0)))
-    (λ (x : p < q). room-at cap bs u s e (suc p) k (w .1) q x (omega arith))
-    (eq-or-lt-of-le a)
-
 pub free-yes : (cap : ℕ) (bs : List Booking) (u s e : ℕ) → Free cap bs u s e → free cap bs u s e ≡ true
 unfolding free
 free-yes cap bs u s e f =
-    let x : roomFrom cap bs u s e s (e - s) ≡ true = room-all cap bs u s e s (e - s) (λ q h l. f .fits q (inr (h, omega arith))) in
+    let x = from-all (roomAt cap bs u s e) s (e - s) (λ q h l. le-leb _ _ (f .fits q (inr (h, omega arith)))) in
     simp (le-leb _ _ (f .few), le-leb _ _ (f .fits s (inl refl)), x)
 
 pub free-facts : (cap : ℕ) (bs : List Booking) (u s e : ℕ) → free cap bs u s e ≡ true → Free cap bs u s e
@@ -169,7 +153,7 @@ free-facts cap bs u s e h =
       fits = λ p i.
           ⊎-elim
           (λ (q : p ≡ s). rw q (leb-true _ _ (v .0)))
-          (λ (q : (s ≤ p) × (p < e)). room-at cap bs u s e s (e - s) (v .1) p (q .0) (omega arith))
+          (λ (q : (s ≤ p) × (p < e)). leb-true _ _ (from-at (roomAt cap bs u s e) s (e - s) (v .1) p (q .0) (omega arith)))
           i;
     }
 

@@ -1,8 +1,9 @@
 -- 01, 'Diary': when units are free over a span.
-use Prim.Native.Nat.{ℕ, zero, suc, _+_, _-_}
-use mathlib.Core.Bool.{Bool, true, _&&_, cond}
+use Prim.Native.Nat.{ℕ, _+_, _-_}
+use mathlib.Core.Bool.{Bool, _&&_, cond}
 use mathlib.Core.List.{List, [], _∷_}
 use lib.Dec.{leb, ltb}
+use Rattle.calendar.specs.Every.{everyFrom}
 use Rattle.timeline.specs.Bookings.{Booking}
 
 -- a booking from a to z overlaps the span [s, e)
@@ -22,11 +23,6 @@ load (b ∷ bs) s e p = cond (onAt (b .start) (b .end) s e p) (b .units) 0 + loa
 abbrev pub roomAt : ℕ → List Booking → ℕ → ℕ → ℕ → ℕ → Bool
 roomAt capacity bs u s e p = leb (load bs s e p + u) capacity
 
--- and at the k instants from p on
-unfoldable pub roomFrom : ℕ → List Booking → ℕ → ℕ → ℕ → ℕ → ℕ → Bool
-roomFrom capacity bs u s e p zero = true
-roomFrom capacity bs u s e p (suc k) = roomAt capacity bs u s e p && roomFrom capacity bs u s e (suc p) k
-
 -- u units are free over [s, e): u ≤ capacity, and at p = s and every p with s ≤ p < e, load + u ≤ capacity
 unfoldable pub free : ℕ → List Booking → ℕ → ℕ → ℕ → Bool
-free capacity bs u s e = leb u capacity && (roomAt capacity bs u s e s && roomFrom capacity bs u s e s (e - s))
+free capacity bs u s e = leb u capacity && (roomAt capacity bs u s e s && everyFrom (roomAt capacity bs u s e) s (e - s))
