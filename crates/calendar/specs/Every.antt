@@ -1,7 +1,7 @@
 -- A test that all of a list pass, or all of a run of indexes: the one 'each' of every rule and check of document 01, with its laws.
 use mathlib.Core.Path.{_≡_, refl, sym, ap, _∙_}
 use mathlib.Core.Bool.{Bool, true, false, _&&_, and-assoc, and-false}
-use mathlib.Core.List.{List, [], _∷_, _++_}
+use mathlib.Core.List.{List, [], _∷_, _++_, map}
 use mathlib.Core.Logic.{⊎-elim}
 use Prim.Native.Nat.{ℕ, zero, suc, _+_, _-_, _≤_, _<_}
 use native.Mathlib.Nat.{eq-or-lt-of-le}
@@ -63,6 +63,10 @@ every-in P [] i d lt e = absurd (omega arith)
 every-in P (x ∷ xs) zero d lt e = and-split (P x) (every P xs) e .0
 every-in P (x ∷ xs) (suc i) d lt e = every-in P xs i d (omega arith) (and-split (P x) (every P xs) e .1)
 
+-- of the first n
+pub first-at : {A : Type 0} (P : A → Bool) (d : A) (n : ℕ) (xs : List A) → n ≤ length xs → every P (take n xs) ≡ true → (i : ℕ) → i < n → P (getD xs i d) ≡ true
+first-at P d n xs l e i m = rw (getD-take n xs i d m) at (every-in P (take n xs) i d (simp length-take (omega arith)) e)
+
 pub every-of : {A : Type 0} (P : A → Bool) (xs : List A) (d : A) → ((i : ℕ) → i < length xs → P (getD xs i d) ≡ true) → every P xs ≡ true
 unfolding every
 every-of P [] d f = refl
@@ -90,6 +94,19 @@ module _ {A : Type 0} (P : A → Bool) where
         ap (every P) (take-split xs i n l)
         ∙ every-append (take (i + 1) xs) (take (n - (i + 1)) (drop (i + 1) xs))
         ∙ rw (every-fails i (omega arith) p) refl
+
+pub every-map : {A B : Type 0} (P : B → Bool) (f : A → B) (xs : List A) → every P (map f xs) ≡ every (λ x. P (f x)) xs
+unfolding every
+every-map P f [] = refl
+every-map P f (x ∷ xs) = ap (λ (q : Bool). P (f x) && q) (every-map P f xs)
+
+-- two tests that agree where a third holds
+pub every-where : {A : Type 0} (N P Q : A → Bool) (xs : List A) → ((x : A) → N x ≡ true → P x ≡ Q x) → every N xs ≡ true → every P xs ≡ every Q xs
+unfolding every
+every-where N P Q [] h e = refl
+every-where N P Q (x ∷ xs) h e =
+    let w = and-split (N x) (every N xs) e in
+    rw (h x (w .0), every-where N P Q xs h (w .1)) refl
 
 -- Over indexes: how the definition goes on by one, and what it says of each.
 module _ (P : ℕ → Bool) where

@@ -7,7 +7,7 @@ use lib.ListN.{length, getD, set, take}
 use lib.Seq.{take-suc-set}
 pub use Rattle.calendar.specs.Basics.{filled-next, take-next, take-split}
 pub use Rattle.calendar.specs.Every.{every-append, every-next, every-off}
-use Rattle.scheduler.specs.Lists.{Each, each-end, each-on}
+use Rattle.scheduler.specs.Lists.{Each, each-end, each-on, Pairs, pairs-end, pairs-on}
 
 module _ {A B : Type 0} (f : A → B) where
   -- cell by cell the image of another array
@@ -34,3 +34,11 @@ module _ {A : Type 0} (P : A → Type 0) (d : A) where
   each-cells zero xs h = each-end
   each-cells (suc n) [] h = each-end
   each-cells (suc n) (x ∷ xs) h = each-on (h 0 (omega arith) (omega arith)) (each-cells n xs (λ k l m. h (suc k) (omega arith) (omega arith)))
+
+-- and of two arrays cell by cell
+pub pairs-cells : {A : Type 0} (R : A → A → Type 0) (d : A) (n : ℕ) (xs ys : List A) → n ≤ length xs → n ≤ length ys → ((i : ℕ) → i < n → R (getD xs i d) (getD ys i d))
+    → Pairs R (take n xs) (take n ys)
+pairs-cells R d zero xs ys l m f = pairs-end
+pairs-cells R d (suc n) [] ys l m f = absurd (omega arith)
+pairs-cells R d (suc n) (x ∷ xs) [] l m f = absurd (omega arith)
+pairs-cells R d (suc n) (x ∷ xs) (y ∷ ys) l m f = pairs-on (f 0 (omega arith)) (pairs-cells R d n xs ys (omega arith) (omega arith) (λ i h. f (suc i) (omega arith)))
