@@ -5,7 +5,6 @@ use mathlib.Core.List.{List}
 use mathlib.Core.Logic.{⊎-elim}
 use mathlib.Core.Path.{_≡_, refl, sym, ap, _∙_}
 use Prim.Native.Nat.{ℕ, zero, suc, _+_, _-_, _*_, _/_, _%_, _^_, _≤_, _<_}
-use native.Mathlib.Nat.{eq-or-lt-of-le}
 use native.Mathlib.Numerals.{add-one}
 use native.Mathlib.Omega.{arith}
 use lib.Dec.{leb, eqb}
@@ -161,9 +160,6 @@ grown b i n h = go (lookupTo b i n) refl h
     go nothing e q = absurd (true≢false (sym q))
     go (at k) e q = rw (lookup-more b i n k e) refl
 
-below : (j n : ℕ) → j < n + 1 → (j ≡ n → ⊥) → j < n
-below j n l q = ⊎-elim (λ (e : j ≡ n). absurd (q e)) (λ (m : j < n). m) (eq-or-lt-of-le (omega arith))
-
 -- a new resource, behind the others
 companions-right : (companions : List ℕ) → length companions ≤ 4 → every (λ companion. leb companion 15) companions ≡ true
     → companionsRight (companionCells companions) (length companions) ≡ true
@@ -212,12 +208,12 @@ module _ (b : Board) (r : Resource) (long : length (b .resources) ≡ 16) (v : v
         right = λ j m.
             ⊎-elim
             (λ (q : b .len ≡ j). rw (← q) (ap resourceRight last-one ∙ h))
-            (λ (q : j ≡ b .len → ⊥). ap resourceRight (others j q) ∙ u .right j (below j (b .len) m q))
+            (λ (q : j ≡ b .len → ⊥). ap resourceRight (others j q) ∙ u .right j (omega (arith, q)))
             (same-or-not (b .len) j);
         new = λ j m.
             ⊎-elim
             (λ (q : b .len ≡ j). rw (← q) (ap isAt (ap (λ (n : ℕ). lookupTo (withNew b r) (b .len) n) (ap (λ (x : Resource). x .number) last-one) ∙ seen (b .len) (r .number) (omega arith)) ∙ new))
-            (λ (q : j ≡ b .len → ⊥). ap isAt (ap (λ (n : ℕ). lookupTo (withNew b r) j n) (ap (λ (x : Resource). x .number) (others j q)) ∙ seen j (numberAt b j) (omega (arith, below j (b .len) m q))) ∙ u .new j (below j (b .len) m q))
+            (λ (q : j ≡ b .len → ⊥). ap isAt (ap (λ (n : ℕ). lookupTo (withNew b r) j n) (ap (λ (x : Resource). x .number) (others j q)) ∙ seen j (numberAt b j) (omega (arith, q))) ∙ u .new j (omega (arith, q)))
             (same-or-not (b .len) j);
         blank = λ j m w. ap resourceBlank (others j (λ q. omega (arith, q))) ∙ u .blank j (omega arith) w;
         transport = λ k m. wider k (u .transport k m);
