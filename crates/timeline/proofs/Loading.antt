@@ -22,17 +22,17 @@ pub record On (a z s e p : ℕ) : Type 0 where
   pub from : a ≤ p
   pub to : p < z
 
-pub on : (a z s e p : ℕ) → onAt a z s e p ≡ true → On a z s e p
+pub on : (b : Booking) (s e p : ℕ) → onAt b s e p ≡ true → On (b .start) (b .end) s e p
 unfolding onAt overlaps
-on a z s e p h =
-    let h1 = and-split (overlaps a z s e) (leb a p && ltb p z) h in
-    let h2 = and-split (ltb a e) (ltb s z) (h1 .0) in
-    let h3 = and-split (leb a p) (ltb p z) (h1 .1) in
+on b s e p h =
+    let h1 = and-split (overlaps b s e) (leb (b .start) p && ltb p (b .end)) h in
+    let h2 = and-split (ltb (b .start) e) (ltb s (b .end)) (h1 .0) in
+    let h3 = and-split (leb (b .start) p) (ltb p (b .end)) (h1 .1) in
     record { starts = ltb-true _ _ (h2 .0); ends = ltb-true _ _ (h2 .1); from = leb-true _ _ (h3 .0); to = ltb-true _ _ (h3 .1) }
 
-pub is-on : (a z s e p : ℕ) → On a z s e p → onAt a z s e p ≡ true
+pub is-on : (b : Booking) (s e p : ℕ) → On (b .start) (b .end) s e p → onAt b s e p ≡ true
 unfolding onAt overlaps
-is-on a z s e p f = simp (lt-ltb _ _ (f .starts), lt-ltb _ _ (f .ends), le-leb _ _ (f .from), lt-ltb _ _ (f .to))
+is-on b s e p f = simp (lt-ltb _ _ (f .starts), lt-ltb _ _ (f .ends), le-leb _ _ (f .from), lt-ltb _ _ (f .to))
 
 cond-le : (x y : Bool) (u : ℕ) → (x ≡ true → y ≡ true) → cond x u 0 ≤ cond y u 0
 cond-le true y u f = rw (f refl) (omega arith)
@@ -47,7 +47,7 @@ load-le [] s e p s′ e′ q f = omega arith
 load-le (b ∷ bs) s e p s′ e′ q f =
     omega (
       arith,
-      cond-le (onAt (b .start) (b .end) s e p) (onAt (b .start) (b .end) s′ e′ q) (b .units) (λ h. is-on _ _ _ _ _ (f 0 (omega arith) (on _ _ _ _ _ h))),
+      cond-le (onAt b s e p) (onAt b s′ e′ q) (b .units) (λ h. is-on b s′ e′ q (f 0 (omega arith) (on b s e p h))),
       load-le bs s e p s′ e′ q (λ k l. f (suc k) (omega arith)),
     )
 
@@ -55,10 +55,10 @@ load-le (b ∷ bs) s e p s′ e′ q f =
 pub load-over : (bs : List Booking) (s e p : ℕ) → load bs s e p ≤ overlapping bs s e
 unfolding load overlapping overlaps
 load-over [] s e p = omega arith
-load-over (b ∷ bs) s e p = omega (arith, cond-le (onAt (b .start) (b .end) s e p) (overlaps (b .start) (b .end) s e) (b .units) (on-over _ _ _ _ _), load-over bs s e p)
+load-over (b ∷ bs) s e p = omega (arith, cond-le (onAt b s e p) (overlaps b s e) (b .units) on-over, load-over bs s e p)
   where
-    on-over : (a z s e p : ℕ) → onAt a z s e p ≡ true → overlaps a z s e ≡ true
-    on-over a z s e p h = simp (lt-ltb _ _ (on a z s e p h .starts), lt-ltb _ _ (on a z s e p h .ends))
+    on-over : onAt b s e p ≡ true → overlaps b s e ≡ true
+    on-over h = simp (lt-ltb _ _ (on b s e p h .starts), lt-ltb _ _ (on b s e p h .ends))
 
 -- the latest booking start up to p, and s where there is none after it
 lastStart : List Booking → ℕ → ℕ → ℕ
