@@ -16,8 +16,8 @@ use Rattle.activity.specs.declared.Timed.{Timed}
 use Rattle.activity.specs.declared.timing.Fixed.{Fixed}
 use Rattle.activity.specs.declared.timing.Fixed.the-variants.{Unset, Own}
 use Rattle.speeds.specs.Speeds.{one, processAt, Within}
-use Rattle.activity.specs.Durations.{timingOf, heldTimings, total, greater, greatest, times, product, settled, durationOn}
-use Rattle.activity.specs.Lawful.{LawfulTiming, LawfulFixed}
+use Rattle.activity.specs.Durations.{timingOf, heldTimings, total, Leading, nobody, owned, greater, greatest, times, product, settled, durationOn}
+use Rattle.activity.specs.Lawful.{LawfulTiming, LawfulLead, leadingOf}
 use Rattle.speeds.proofs.Bounds.{within-more, within-mul, speed-within, one-within}
 
 -- one timing more: the product stays from 4 ^ -k to 4 ^ k, and what leads stays short
@@ -26,13 +26,13 @@ times-within k p Nothing h w l = within-more k (k + 1) p (omega arith) w
 times-within k p (Speed s) h w l = within-mul k 1 p s h w (speed-within s (subst T (sym l) tt))
 times-within k p (Duration d) h w l = within-more k (k + 1) p (omega arith) w
 
-pub greater-lawful : (f : Fixed) (t : ResourceTiming) → LawfulFixed f → LawfulTiming t → LawfulFixed (greater f t)
+pub greater-lawful : (f : Leading) (t : ResourceTiming) → LawfulLead f → LawfulTiming t → LawfulLead (greater f t)
 greater-lawful f Nothing h l = h
 greater-lawful f (Speed s) h l = h
-greater-lawful Unset (Duration d) h l = l
-greater-lawful (Own f) (Duration d) h l = go (ltb (total f) (total d))
+greater-lawful nobody (Duration d) h l = l
+greater-lawful (owned f) (Duration d) h l = go (ltb (total f) (total d))
   where
-    go : (b : Bool) → LawfulFixed (cond b (Own d) (Own f))
+    go : (b : Bool) → LawfulLead (cond b (owned d) (owned f))
     go true = l
     go false = h
 
@@ -41,16 +41,16 @@ module _ (timings : List Timed) (held : List ℕ) (count : ℕ) where
   abbrev all : List ℕ
   all = take count held
 
-  pub record Walk (speed : Float) (fixed : Fixed) (i : ℕ) : Type 0 where
+  pub record Walk (speed : Float) (lead : Leading) (i : ℕ) : Type 0 where
     pub multiplied : product speed (heldTimings timings (drop i all)) ≡ product one (heldTimings timings all)
-    pub led : greatest fixed (heldTimings timings (drop i all)) ≡ greatest Unset (heldTimings timings all)
+    pub led : greatest lead (heldTimings timings (drop i all)) ≡ greatest nobody (heldTimings timings all)
     pub range : Within i speed
-    pub lawful : LawfulFixed fixed
+    pub lawful : LawfulLead lead
 
-  pub walk-start : Walk one Unset 0
+  pub walk-start : Walk one nobody 0
   walk-start = record { multiplied = refl; led = refl; range = one-within; lawful = tt }
 
-  pub walk-step : (speed next : Float) (fixed lead : Fixed) (i : ℕ) → Walk speed fixed i → i < count → count ≤ length held → i + 1 ≤ 26 → LawfulTiming (timingOf timings (getD held i 0))
+  pub walk-step : (speed next : Float) (fixed lead : Leading) (i : ℕ) → Walk speed fixed i → i < count → count ≤ length held → i + 1 ≤ 26 → LawfulTiming (timingOf timings (getD held i 0))
       → next ≡ times speed (timingOf timings (getD held i 0)) → lead ≡ greater fixed (timingOf timings (getD held i 0)) → Walk next lead (i + 1)
   unfolding product greatest
   walk-step speed next fixed lead i w lt le few l p q =
@@ -65,7 +65,7 @@ module _ (timings : List Timed) (held : List ℕ) (count : ℕ) where
         lawful = greater-lawful fixed t (w .lawful) l;
       })
 
-  walk-end : (speed : Float) (fixed : Fixed) (i : ℕ) → Walk speed fixed i → count ≤ i → (product one (heldTimings timings all) ≡ speed) × (greatest Unset (heldTimings timings all) ≡ fixed)
+  walk-end : (speed : Float) (fixed : Leading) (i : ℕ) → Walk speed fixed i → count ≤ i → (product one (heldTimings timings all) ≡ speed) × (greatest nobody (heldTimings timings all) ≡ fixed)
   unfolding product greatest
   walk-end speed fixed i w le =
       let e : drop i all ≡ [] = drop-of-length-le all {i = i} (simp length-take (omega arith)) in (
@@ -74,16 +74,16 @@ module _ (timings : List Timed) (held : List ℕ) (count : ℕ) where
       )
 
   -- at the end own durations lead, or there are none
-  pub walk-own : (base d : ActivityDuration) (speed : Float) (fixed : Fixed) (i : ℕ) → Walk speed fixed i → count ≤ i → fixed ≡ Own d → d ≡ durationOn base timings all
+  pub walk-own : (base d : ActivityDuration) (speed : Float) (fixed : Fixed) (i : ℕ) → Walk speed (leadingOf fixed) i → count ≤ i → fixed ≡ Own d → d ≡ durationOn base timings all
   unfolding durationOn
-  walk-own base d speed fixed i w le e = sym (ap (settled base (product one (heldTimings timings all))) (walk-end speed fixed i w le .1 ∙ e))
+  walk-own base d speed fixed i w le e = sym (ap (settled base (product one (heldTimings timings all))) (walk-end speed (leadingOf fixed) i w le .1 ∙ ap leadingOf e))
 
-  pub walk-base : (base : ActivityDuration) (r : ℕ) (speed : Float) (fixed : Fixed) (i : ℕ) → Walk speed fixed i → count ≤ i → fixed ≡ Unset → r ≡ processAt (base .process) speed
+  pub walk-base : (base : ActivityDuration) (r : ℕ) (speed : Float) (fixed : Fixed) (i : ℕ) → Walk speed (leadingOf fixed) i → count ≤ i → fixed ≡ Unset → r ≡ processAt (base .process) speed
       → record { setup = base .setup; process = r; teardown = base .teardown } ≡ durationOn base timings all
   unfolding durationOn
   walk-base base r speed fixed i w le e k =
-      let z = walk-end speed fixed i w le in
-      rw k (sym (ap (settled base (product one (heldTimings timings all))) (z .1 ∙ e) ∙ ap (λ (p : Float). settled base p Unset) (z .0)))
+      let z = walk-end speed (leadingOf fixed) i w le in
+      rw k (sym (ap (settled base (product one (heldTimings timings all))) (z .1 ∙ ap leadingOf e) ∙ ap (λ (p : Float). settled base p nobody) (z .0)))
 
 -- All of them: a product of n speeds is from 4 ^ -n to 4 ^ n, and what leads is short.
 module _ (timings : List Timed) (each : (n : ℕ) → LawfulTiming (timingOf timings n)) where
@@ -95,7 +95,7 @@ module _ (timings : List Timed) (each : (n : ℕ) → LawfulTiming (timingOf tim
       subst (λ (n : ℕ). Within n (product (times p (timingOf timings x)) (heldTimings timings held))) e
       (product-within held (k + 1) (times p (timingOf timings x)) (omega arith) (times-within k p (timingOf timings x) (omega arith) w (each x)))
 
-  pub greatest-lawful : (held : List ℕ) (f : Fixed) → LawfulFixed f → LawfulFixed (greatest f (heldTimings timings held))
+  pub greatest-lawful : (held : List ℕ) (f : Leading) → LawfulLead f → LawfulLead (greatest f (heldTimings timings held))
   unfolding greatest
   greatest-lawful [] f h = h
   greatest-lawful (x ∷ held) f h = greatest-lawful held (greater f (timingOf timings x)) (greater-lawful f (timingOf timings x) h (each x))

@@ -17,9 +17,9 @@ use Rattle.activity.specs.declared.Timed.{Timed}
 use Rattle.activity.specs.declared.ResourceRequirement.{ResourceRequirement}
 use Rattle.activity.specs.declared.Activity.{Activity}
 use Rattle.activity.specs.Durations.{untimed, timingOf}
-use Rattle.activity.specs.Check.{every, releaseRight, short, timingShort, timingSpeed, quantity, quantityRight, quantitiesRight, usageRight, requirementsOf, timesRight, activityRefusal, checkReply, heldRight}
+use Rattle.calendar.specs.Every.{every, every-at, every-in, every-of}
+use Rattle.activity.specs.Check.{releaseRight, short, timingShort, timingSpeed, quantity, quantityRight, quantitiesRight, usageRight, requirementsOf, timesRight, activityRefusal, checkReply, heldRight}
 use Rattle.activity.specs.Lawful.{Short, LawfulTiming, Lawful}
-use Rattle.activity.proofs.Passing.{every-at, every-in, every-of}
 use Rattle.activity.specs.Check.{noRequirement}
 
 -- the timings of an order in range

@@ -20,18 +20,16 @@ use Rattle.activity.specs.declared.ActivityDuration.{ActivityDuration}
 use Rattle.activity.specs.declared.ResourceTiming.{ResourceTiming}
 use Rattle.activity.specs.declared.ResourceTiming.the-variants.{Nothing, Speed, Duration}
 use Rattle.activity.specs.declared.Timed.{Timed}
-use Rattle.activity.specs.declared.timing.Fixed.{Fixed}
-use Rattle.activity.specs.declared.timing.Fixed.the-variants.{Unset, Own}
 use Rattle.activity.specs.declared.ResourceRequirement.{ResourceRequirement}
 use Rattle.activity.specs.declared.Release.{Release}
 use Rattle.activity.specs.declared.Release.the-variants.{Absent, At}
 use Rattle.speeds.specs.Speeds.{one, isSpeed, halfUp, roundAway, processAt, Near, Within}
-use Rattle.activity.specs.Durations.{timingOf, heldTimings, total, greater, greatest, product, settled, durationOn}
+use Rattle.activity.specs.Durations.{timingOf, heldTimings, total, Leading, nobody, owned, greater, greatest, product, settled, durationOn}
 use Rattle.calendar.specs.Sets.{bit}
 use Rattle.activity.specs.Serving.{covers, candidate, serves}
 use Rattle.activity.specs.Ready.{readyOf}
 use Rattle.activity.specs.Check.{releaseRight}
-use Rattle.activity.specs.Lawful.{LawfulFixed, Lawful}
+use Rattle.activity.specs.Lawful.{LawfulLead, Lawful}
 use Rattle.speeds.proofs.Rounding.{away-of-value, half-up-whole, half-up-same}
 use Rattle.speeds.proofs.Bounds.{within-positive, within-more, speed-within, one-within, div-at, whole-value, num-pos, positive-plain}
 use Rattle.speeds.proofs.Nearness.{eq-one, process-near, process-le}
@@ -118,12 +116,12 @@ pub record Bounded (d : ActivityDuration) : Type 0 where
 pub duration-bounded : (base : ActivityDuration) (timings : List Timed) (held : List ℕ) → Lawful base timings → length held ≤ 8 → Bounded (durationOn base timings held)
 unfolding durationOn
 duration-bounded base timings held l h =
-    go (greatest Unset (heldTimings timings held)) (greatest-lawful timings (l .each) held Unset tt)
+    go (greatest nobody (heldTimings timings held)) (greatest-lawful timings (l .each) held nobody tt)
     (within-more (0 + length held) 8 (product one (heldTimings timings held)) (omega arith) (product-within timings (l .each) held 0 one (omega arith) one-within))
   where
-    go : (f : Fixed) → LawfulFixed f → Within 8 (product one (heldTimings timings held)) → Bounded (settled base (product one (heldTimings timings held)) f)
-    go (Own d) s w = record { setup-range = s .setup-range; process-range = omega (arith, s .process-range); teardown-range = s .teardown-range }
-    go Unset s w = record {
+    go : (f : Leading) → LawfulLead f → Within 8 (product one (heldTimings timings held)) → Bounded (settled base (product one (heldTimings timings held)) f)
+    go (owned d) s w = record { setup-range = s .setup-range; process-range = omega (arith, s .process-range); teardown-range = s .teardown-range }
+    go nobody s w = record {
       setup-range = l .base-short .setup-range;
       process-range = process-le (base .process) (product one (heldTimings timings held)) (l .base-short .process-range) w;
       teardown-range = l .base-short .teardown-range;
@@ -137,9 +135,9 @@ pub record Wins (ts : List ResourceTiming) (d : ActivityDuration) : Type 0 where
   pub later : (k : ℕ) (x : ActivityDuration) → place < k → getD ts k Nothing ≡ Duration x → total x ≤ total d
 
 -- what leads so far has a smaller total
-abbrev Below : Fixed → ActivityDuration → Type 0
-Below Unset d = Unit
-Below (Own f) d = total f < total d
+abbrev Below : Leading → ActivityDuration → Type 0
+Below nobody d = Unit
+Below (owned f) d = total f < total d
 
 differ : (d : ActivityDuration) → Nothing ≡ Duration d → ⊥
 differ d e = let z : _≡_ {A = ℕ} 0 1 = cc in omega arith
@@ -147,45 +145,45 @@ differ d e = let z : _≡_ {A = ℕ} 0 1 = cc in omega arith
 no-speed : (s : Float) (d : ActivityDuration) → Speed s ≡ Duration d → ⊥
 no-speed s d e = let z : _≡_ {A = ℕ} 0 1 = cc in omega arith
 
-taken-over : (f : Fixed) (d : ActivityDuration) → Below f d → greater f (Duration d) ≡ Own d
-taken-over Unset d b = refl
-taken-over (Own f) d b = rw (lt-ltb (total f) (total d) b) refl
+taken-over : (f : Leading) (d : ActivityDuration) → Below f d → greater f (Duration d) ≡ owned d
+taken-over nobody d b = refl
+taken-over (owned f) d b = rw (lt-ltb (total f) (total d) b) refl
 
-still-below : (f : Fixed) (t : ResourceTiming) (d : ActivityDuration) → Below f d → ((x : ActivityDuration) → t ≡ Duration x → total x < total d) → Below (greater f t) d
+still-below : (f : Leading) (t : ResourceTiming) (d : ActivityDuration) → Below f d → ((x : ActivityDuration) → t ≡ Duration x → total x < total d) → Below (greater f t) d
 still-below f Nothing d b h = b
 still-below f (Speed s) d b h = b
-still-below Unset (Duration x) d b h = h x refl
-still-below (Own f) (Duration x) d b h = go (ltb (total f) (total x))
+still-below nobody (Duration x) d b h = h x refl
+still-below (owned f) (Duration x) d b h = go (ltb (total f) (total x))
   where
-    go : (o : Bool) → Below (cond o (Own x) (Own f)) d
+    go : (o : Bool) → Below (cond o (owned x) (owned f)) d
     go true = h x refl
     go false = b
 
-still-leads : (t : ResourceTiming) (d : ActivityDuration) → ((x : ActivityDuration) → t ≡ Duration x → total x ≤ total d) → greater (Own d) t ≡ Own d
+still-leads : (t : ResourceTiming) (d : ActivityDuration) → ((x : ActivityDuration) → t ≡ Duration x → total x ≤ total d) → greater (owned d) t ≡ owned d
 still-leads Nothing d h = refl
 still-leads (Speed s) d h = refl
 still-leads (Duration x) d h = rw (le-ltb (total d) (total x) (h x refl)) refl
 
-leads-on : (ts : List ResourceTiming) (d : ActivityDuration) → ((k : ℕ) (x : ActivityDuration) → getD ts k Nothing ≡ Duration x → total x ≤ total d) → greatest (Own d) ts ≡ Own d
+leads-on : (ts : List ResourceTiming) (d : ActivityDuration) → ((k : ℕ) (x : ActivityDuration) → getD ts k Nothing ≡ Duration x → total x ≤ total d) → greatest (owned d) ts ≡ owned d
 unfolding greatest
 leads-on [] d h = refl
 leads-on (t ∷ ts) d h = rw (still-leads t d (h 0)) (leads-on ts d (λ k. h (suc k)))
 
-wins-from : (ts : List ResourceTiming) (f : Fixed) (d : ActivityDuration) → Below f d → (place : ℕ) → getD ts place Nothing ≡ Duration d
+wins-from : (ts : List ResourceTiming) (f : Leading) (d : ActivityDuration) → Below f d → (place : ℕ) → getD ts place Nothing ≡ Duration d
     → ((k : ℕ) (x : ActivityDuration) → k < place → getD ts k Nothing ≡ Duration x → total x < total d)
-    → ((k : ℕ) (x : ActivityDuration) → place < k → getD ts k Nothing ≡ Duration x → total x ≤ total d) → greatest f ts ≡ Own d
+    → ((k : ℕ) (x : ActivityDuration) → place < k → getD ts k Nothing ≡ Duration x → total x ≤ total d) → greatest f ts ≡ owned d
 unfolding greatest
 wins-from [] f d b place o earlier later = absurd (differ d o)
 wins-from (t ∷ ts) f d b zero o earlier later = rw (o, taken-over f d b) (leads-on ts d (λ k x. later (suc k) x (omega arith)))
 wins-from (t ∷ ts) f d b (suc place) o earlier later =
     wins-from ts (greater f t) d (still-below f t d b (λ x. earlier 0 x (omega arith))) place o (λ k x h. earlier (suc k) x (omega arith)) (λ k x h. later (suc k) x (omega arith))
 
-none-leads : (ts : List ResourceTiming) → ((k : ℕ) (x : ActivityDuration) → getD ts k Nothing ≡ Duration x → ⊥) → greatest Unset ts ≡ Unset
+none-leads : (ts : List ResourceTiming) → ((k : ℕ) (x : ActivityDuration) → getD ts k Nothing ≡ Duration x → ⊥) → greatest nobody ts ≡ nobody
 unfolding greatest
 none-leads [] h = refl
 none-leads (t ∷ ts) h = rw (skip t (h 0)) (none-leads ts (λ k. h (suc k)))
   where
-    skip : (t : ResourceTiming) → ((x : ActivityDuration) → t ≡ Duration x → ⊥) → greater Unset t ≡ Unset
+    skip : (t : ResourceTiming) → ((x : ActivityDuration) → t ≡ Duration x → ⊥) → greater nobody t ≡ nobody
     skip Nothing h = refl
     skip (Speed s) h = refl
     skip (Duration d) h = absurd (h d refl)
@@ -194,7 +192,7 @@ module _ (base : ActivityDuration) (timings : List Timed) (held : List ℕ) wher
   -- own durations that win are the order's ..
   pub own-wins : (d : ActivityDuration) → Wins (heldTimings timings held) d → durationOn base timings held ≡ d
   unfolding durationOn
-  own-wins d w = rw (wins-from (heldTimings timings held) Unset d tt (w .place) (w .own) (w .earlier) (w .later)) refl
+  own-wins d w = rw (wins-from (heldTimings timings held) nobody d tt (w .place) (w .own) (w .earlier) (w .later)) refl
 
   -- .. and where no resource held has any, the base is, with its process time at the product of the speeds; at exactly 1.0 the base itself
   pub none-own : ((k : ℕ) (x : ActivityDuration) → getD (heldTimings timings held) k Nothing ≡ Duration x → ⊥)

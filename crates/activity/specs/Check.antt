@@ -5,6 +5,7 @@ use mathlib.Core.List.{List, [], _∷_}
 use lib.ListN.{take}
 use lib.Dec.{leb, ltb}
 use Rattle.calendar.specs.Refusals.{refusedOr}
+unfoldable pub use Rattle.calendar.specs.Every.{every}
 use Rattle.calendar.specs.Limits.{lastInstant, longestDuration, mostUnits}
 use Rattle.calendar.specs.Valid.{valid}
 use Rattle.activity.specs.declared.ActivityDuration.{ActivityDuration}
@@ -18,10 +19,6 @@ use Rattle.activity.specs.declared.DurationAnswer.{DurationAnswer}
 use Rattle.activity.specs.declared.DurationAnswer.the-variants.{Lasts, Refused}
 use Rattle.speeds.specs.Speeds.{isSpeed}
 use Rattle.activity.specs.Durations.{durationOn}
-
-unfoldable pub every : {A : Type 0} → (A → Bool) → List A → Bool
-every P [] = true
-every P (x ∷ xs) = P x && every P xs
 
 -- an instant is 0 to 2^42; an absent release is not checked
 unfoldable pub releaseRight : Release → Bool

@@ -9,8 +9,6 @@ use Rattle.activity.specs.declared.ActivityDuration.{ActivityDuration}
 use Rattle.activity.specs.declared.ResourceTiming.{ResourceTiming}
 use Rattle.activity.specs.declared.ResourceTiming.the-variants.{Nothing, Speed, Duration}
 use Rattle.activity.specs.declared.Timed.{Timed}
-use Rattle.activity.specs.declared.timing.Fixed.{Fixed}
-use Rattle.activity.specs.declared.timing.Fixed.the-variants.{Unset, Own}
 use Rattle.speeds.specs.Speeds.{one, processAt}
 
 -- what stands past the end of a list of timings
@@ -28,16 +26,21 @@ heldTimings timings held = map (timingOf timings) held
 abbrev pub total : ActivityDuration → ℕ
 total d = d .setup + d .process + d .teardown
 
--- own durations of greatest total win, the first among equals: what leads so far gives way to a greater total only
-abbrev pub greater : Fixed → ResourceTiming → Fixed
-greater fixed Nothing = fixed
-greater fixed (Speed s) = fixed
-greater Unset (Duration d) = Own d
-greater (Own f) (Duration d) = cond (ltb (total f) (total d)) (Own d) (Own f)
+-- the own durations that lead so far, if any has them
+pub data Leading : Type 0 where
+  nobody : Leading
+  owned : ActivityDuration → Leading
 
-unfoldable pub greatest : Fixed → List ResourceTiming → Fixed
-greatest fixed [] = fixed
-greatest fixed (t ∷ ts) = greatest (greater fixed t) ts
+-- own durations of greatest total win, the first among equals: what leads so far gives way to a greater total only
+abbrev pub greater : Leading → ResourceTiming → Leading
+greater lead Nothing = lead
+greater lead (Speed s) = lead
+greater nobody (Duration d) = owned d
+greater (owned f) (Duration d) = cond (ltb (total f) (total d)) (owned d) (owned f)
+
+unfoldable pub greatest : Leading → List ResourceTiming → Leading
+greatest lead [] = lead
+greatest lead (t ∷ ts) = greatest (greater lead t) ts
 
 -- speeds multiply, each product rounded
 abbrev pub times : Float → ResourceTiming → Float
@@ -50,10 +53,10 @@ product p [] = p
 product p (t ∷ ts) = product (times p t) ts
 
 -- if any has own durations, those; else the base with the process time at the product of the speeds
-abbrev pub settled : ActivityDuration → Float → Fixed → ActivityDuration
-settled base speed (Own d) = d
-settled base speed Unset = record { setup = base .setup; process = processAt (base .process) speed; teardown = base .teardown }
+abbrev pub settled : ActivityDuration → Float → Leading → ActivityDuration
+settled base speed (owned d) = d
+settled base speed nobody = record { setup = base .setup; process = processAt (base .process) speed; teardown = base .teardown }
 
 -- the speeds multiply from 1.0
 unfoldable pub durationOn : ActivityDuration → List Timed → List ℕ → ActivityDuration
-durationOn base timings held = settled base (product one (heldTimings timings held)) (greatest Unset (heldTimings timings held))
+durationOn base timings held = settled base (product one (heldTimings timings held)) (greatest nobody (heldTimings timings held))

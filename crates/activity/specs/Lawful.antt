@@ -10,7 +10,7 @@ use Rattle.activity.specs.declared.Timed.{Timed}
 use Rattle.activity.specs.declared.timing.Fixed.{Fixed}
 use Rattle.activity.specs.declared.timing.Fixed.the-variants.{Unset, Own}
 use Rattle.speeds.specs.Speeds.{isSpeed}
-use Rattle.activity.specs.Durations.{timingOf}
+use Rattle.activity.specs.Durations.{timingOf, Leading, nobody, owned}
 
 -- each of the three is at most 2 ^ 36
 pub record Short (d : ActivityDuration) : Type 0 where
@@ -23,9 +23,14 @@ LawfulTiming Nothing = Unit
 LawfulTiming (Speed s) = isSpeed s ≡ true
 LawfulTiming (Duration d) = Short d
 
-abbrev pub LawfulFixed : Fixed → Type 0
-LawfulFixed Unset = Unit
-LawfulFixed (Own d) = Short d
+abbrev pub LawfulLead : Leading → Type 0
+LawfulLead nobody = Unit
+LawfulLead (owned d) = Short d
+
+-- what the code's enum says
+abbrev pub leadingOf : Fixed → Leading
+leadingOf Unset = nobody
+leadingOf (Own d) = owned d
 
 -- the base is short, and the timing of every number is a speed that is taken, short durations, or nothing
 pub record Lawful (base : ActivityDuration) (timings : List Timed) : Type 0 where

@@ -16,7 +16,8 @@ use Rattle.speeds.specs.Speeds.{one, quarter, four, halfUp, roundAway, processA
 use Rattle.activity.specs.Durations.{untimed, greatest, product, durationOn}
 use Rattle.calendar.specs.Sets.{bit}
 use Rattle.activity.specs.Serving.{covers, candidate, serves}
-use Rattle.activity.specs.Check.{every, releaseRight, short, quantity, quantitiesRight, usageRight, timesRight, activityRefusal}
+use Rattle.calendar.specs.Every.{every}
+use Rattle.activity.specs.Check.{releaseRight, short, quantity, quantitiesRight, usageRight, timesRight, activityRefusal}
 
 -- 2.0, 1.5, 0.5
 abbrev pub two : Float

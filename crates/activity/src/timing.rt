@@ -3,7 +3,7 @@ use crate::ActivityDuration;
 use crate::ResourceTiming;
 ghost use mathlib.Core.Path.{_≡_};
 ghost use Rattle.activity.specs.Durations.{total as totalOf, times as timesOf, greater as greaterOf};
-ghost use Rattle.activity.specs.Lawful.{Short, LawfulTiming, LawfulFixed};
+ghost use Rattle.activity.specs.Lawful.{Short, LawfulTiming, LawfulLead, leadingOf};
 
 // The own durations that lead so far (the Rust's `fixed`).
 pub enum Fixed {
@@ -32,9 +32,9 @@ fn total(d: ActivityDuration) -> u64
 
 // The own durations that lead, with one timing more: only a greater total takes their place.
 pub fn greater(fixed: Fixed, timing: ResourceTiming) -> Fixed
-    requires { ⌜ LawfulFixed fixed ⌝ }
+    requires { ⌜ LawfulLead (leadingOf fixed) ⌝ }
     requires { ⌜ LawfulTiming timing ⌝ }
-    ensures { λ r. ⌜ r ≡ greaterOf fixed timing ⌝ }
+    ensures { λ r. ⌜ leadingOf r ≡ greaterOf (leadingOf fixed) timing ⌝ }
 {
     match timing {
         ResourceTiming::Nothing => fixed,

@@ -10,10 +10,10 @@ use lib.Dec.{leb, ltb}
 use Rattle.calendar.specs.Basics.{and-split, and-join, lt-or-ge}
 use Rattle.calendar.specs.Search.{Found, nothing, at}
 use Rattle.board.specs.Resources.{resourceAt, numberAt, lookupTo, lookup, isAt}
-use Rattle.board.specs.Valid.{everyFrom, every, resourceRight, resourceBlank, cellRight, transportRight, valid}
+use Rattle.board.specs.Valid.{resourceRight, resourceBlank, cellRight, transportRight, valid}
 use Rattle.board.specs.declared.Board.{Board}
 use Rattle.board.specs.declared.Resource.{Resource}
-use Rattle.board.proofs.Every.{every-step, every-end, every-at, every-all}
+use Rattle.calendar.specs.Every.{everyFrom, from-step, from-end, from-at, from-all}
 use Rattle.board.proofs.Seeing.{lookup-below, lookup-number}
 
 pub resource-number : (r : Resource) → resourceRight r ≡ true → r .number ≤ 15
@@ -44,19 +44,19 @@ pub valid-long : (b : Board) → 16 < b .len → valid b ≡ false
 unfolding valid
 valid-long b l = rw (lt-leb (b .len) 16 l) refl
 
-pub valid-start : (b : Board) → b .len ≤ 16 → valid b ≡ everyFrom (cellRight b) 0 16 && every (transportRight b) 256
+pub valid-start : (b : Board) → b .len ≤ 16 → valid b ≡ everyFrom (cellRight b) 0 16 && everyFrom (transportRight b) 0 256
 unfolding valid
 valid-start b l = rw (le-leb (b .len) 16 l) refl
 
-module _ (b : Board) (i : ℕ) (l : i < 16) (v : valid b ≡ everyFrom (cellRight b) i (16 - i) && every (transportRight b) 256) where
+module _ (b : Board) (i : ℕ) (l : i < 16) (v : valid b ≡ everyFrom (cellRight b) i (16 - i) && everyFrom (transportRight b) 0 256) where
   pub valid-stop : cellRight b i ≡ false → valid b ≡ false
-  valid-stop e = v ∙ rw (every-step (cellRight b) i 16 l, e) refl
+  valid-stop e = v ∙ rw (from-step (cellRight b) i 16 l, e) refl
 
-  pub valid-next : cellRight b i ≡ true → valid b ≡ everyFrom (cellRight b) (i + 1) (16 - (i + 1)) && every (transportRight b) 256
-  valid-next e = v ∙ rw (every-step (cellRight b) i 16 l, e) refl
+  pub valid-next : cellRight b i ≡ true → valid b ≡ everyFrom (cellRight b) (i + 1) (16 - (i + 1)) && everyFrom (transportRight b) 0 256
+  valid-next e = v ∙ rw (from-step (cellRight b) i 16 l, e) refl
 
-pub valid-end : (b : Board) (i : ℕ) → 16 ≤ i → valid b ≡ everyFrom (cellRight b) i (16 - i) && every (transportRight b) 256 → valid b ≡ every (transportRight b) 256
-valid-end b i l v = v ∙ rw (every-end (cellRight b) i 16 l) refl
+pub valid-end : (b : Board) (i : ℕ) → 16 ≤ i → valid b ≡ everyFrom (cellRight b) i (16 - i) && everyFrom (transportRight b) 0 256 → valid b ≡ everyFrom (transportRight b) 0 256
+valid-end b i l v = v ∙ rw (from-end (cellRight b) i 16 l) refl
 
 pub record Rules (b : Board) : Type 0 where
   pub few : b .len ≤ 16
@@ -68,15 +68,15 @@ pub record Rules (b : Board) : Type 0 where
 pub rules : (b : Board) → valid b ≡ true → Rules b
 unfolding valid
 rules b h =
-    let p = and-split (leb (b .len) 16) (every (cellRight b) 16 && every (transportRight b) 256) h in
-    let q = and-split (every (cellRight b) 16) (every (transportRight b) 256) (p .1) in
+    let p = and-split (leb (b .len) 16) (everyFrom (cellRight b) 0 16 && everyFrom (transportRight b) 0 256) h in
+    let q = and-split (everyFrom (cellRight b) 0 16) (everyFrom (transportRight b) 0 256) (p .1) in
     let few : b .len ≤ 16 = leb-true (b .len) 16 (p .0) in
     record {
       few = few;
-      right = λ i l. and-split (resourceRight (resourceAt b i)) (not (isAt (lookupTo b i (numberAt b i)))) (sym (cell-is b i l) ∙ every-at (cellRight b) 16 (q .0) i (omega arith)) .0;
-      new = λ i l. not-true (isAt (lookupTo b i (numberAt b i))) (and-split (resourceRight (resourceAt b i)) (not (isAt (lookupTo b i (numberAt b i)))) (sym (cell-is b i l) ∙ every-at (cellRight b) 16 (q .0) i (omega arith)) .1);
-      blank = λ i l m. sym (cell-past b i l) ∙ every-at (cellRight b) 16 (q .0) i m;
-      transport = λ k l. every-at (transportRight b) 256 (q .1) k l;
+      right = λ i l. and-split (resourceRight (resourceAt b i)) (not (isAt (lookupTo b i (numberAt b i)))) (sym (cell-is b i l) ∙ from-at (cellRight b) 0 16 (q .0) i (omega arith) (omega arith)) .0;
+      new = λ i l. not-true (isAt (lookupTo b i (numberAt b i))) (and-split (resourceRight (resourceAt b i)) (not (isAt (lookupTo b i (numberAt b i)))) (sym (cell-is b i l) ∙ from-at (cellRight b) 0 16 (q .0) i (omega arith) (omega arith)) .1);
+      blank = λ i l m. sym (cell-past b i l) ∙ from-at (cellRight b) 0 16 (q .0) i (omega arith) (omega arith);
+      transport = λ k l. from-at (transportRight b) 0 256 (q .1) k (omega arith) (omega arith);
     }
 
 pub ruled : (b : Board) → Rules b → valid b ≡ true
@@ -84,12 +84,12 @@ unfolding valid
 ruled b r =
     and-join _ _ (le-leb (b .len) 16 (r .few))
     (and-join _ _
-    (every-all (cellRight b) 16 (λ i l.
+    (from-all (cellRight b) 0 16 (λ i z l.
     ⊎-elim
     (λ (m : i < b .len). cell-right b i m (r .right i m) (r .new i m))
-    (λ (m : b .len ≤ i). cell-past b i m ∙ r .blank i m l)
+    (λ (m : b .len ≤ i). cell-past b i m ∙ r .blank i m (omega arith))
     (lt-or-ge i (b .len))))
-    (every-all (transportRight b) 256 (r .transport)))
+    (from-all (transportRight b) 0 256 (λ k z l. r .transport k (omega arith))))
 
 -- a number above 15 is not on a board that keeps the rules
 pub off-above : (b : Board) (n : ℕ) → valid b ≡ true → 15 < n → lookup b n ≡ nothing

@@ -17,13 +17,13 @@ use Rattle.board.specs.Setups.{entryOr, matrixSetup, setupMs}
 use Rattle.calendar.specs.Sets.{bit}
 use Rattle.board.specs.Transport.{greatest, transportTo}
 use Rattle.board.specs.Places.{anywhere}
-use Rattle.board.specs.Valid.{every, durationRight, entryRight, isZero, ownRight, entryCell, matrixRight, companionCell, companionsRight, lastRight, resourceRight, transportCell, transportRight, valid}
+use Rattle.board.specs.Valid.{durationRight, entryRight, isZero, ownRight, entryCell, matrixRight, companionCell, companionsRight, lastRight, resourceRight, transportCell, transportRight, valid}
 use Rattle.board.specs.declared.Board.{Board}
 use Rattle.board.specs.declared.LastCategory.{LastCategory}
 use Rattle.board.specs.declared.LastCategory.the-variants.{Nothing, Category}
 use Rattle.board.specs.declared.Resource.{Resource}
 use Rattle.board.specs.declared.TransitionMatrix.{TransitionMatrix}
-use Rattle.board.proofs.Every.{every-at}
+use Rattle.calendar.specs.Every.{everyFrom, from-at}
 use Rattle.board.proofs.Facts.{rules}
 use Rattle.board.proofs.Seeing.{lookup-below, lookup-number, nothing-of}
 use Rattle.calendar.specs.Meaning.{least-none, least-is}
@@ -67,7 +67,7 @@ resource-rules r h =
       number = leb-true (r .number) 15 (h1 .0);
       few = few;
       companions = λ k l.
-          let e = every-at (λ i. companionCell (r .count) i (getD (r .companions) i 0)) 4 (c .1) k (omega arith) in
+          let e = from-at (λ i. companionCell (r .count) i (getD (r .companions) i 0)) 0 4 (c .1) k (omega arith) (omega arith) in
           leb-true _ 15 (rw (lt-ltb k (r .count) l) at e);
       timeline = h3 .0;
       matrix = h4 .0;
@@ -177,14 +177,14 @@ own-small false (pos n) h = omega (arith, eqb-true n 0 h)
 own-small present (negsuc n) h = omega arith
 
 by-matrix : (m : TransitionMatrix) (last : LastCategory) (this : ℕ) → ownRight (m .present) (m .default) ≡ true → ownRight (m .present) (m .initial) ≡ true
-    → every (λ i. entryCell (m .present) (getD (m .transitions) i (pos 0))) 256 ≡ true → every (λ i. entryCell (m .present) (getD (m .initials) i (pos 0))) 16 ≡ true
+    → everyFrom (λ i. entryCell (m .present) (getD (m .transitions) i (pos 0))) 0 256 ≡ true → everyFrom (λ i. entryCell (m .present) (getD (m .initials) i (pos 0))) 0 16 ≡ true
     → lastRight last ≡ true → this ≤ 15 → matrixSetup m last this ≤ 2 ^ 36
 unfolding matrixSetup lastRight
 by-matrix m Nothing this d i ts is r l =
-    entry-small (m .present) (getD (m .initials) this (pos 0)) (entryOr (m .initial) 0) (every-at _ 16 is this (omega arith)) (own-small (m .present) (m .initial) i)
+    entry-small (m .present) (getD (m .initials) this (pos 0)) (entryOr (m .initial) 0) (from-at _ 0 16 is this (omega arith) (omega arith)) (own-small (m .present) (m .initial) i)
 by-matrix m (Category c) this d i ts is r l =
     let small : c ≤ 15 = leb-true c 15 r in
-    entry-small (m .present) (getD (m .transitions) (16 * c + this) (pos 0)) _ (every-at _ 256 ts (16 * c + this) (omega arith)) (other (eqb c this))
+    entry-small (m .present) (getD (m .transitions) (16 * c + this) (pos 0)) _ (from-at _ 0 256 ts (16 * c + this) (omega arith) (omega arith)) (other (eqb c this))
   where
     other : (t : Bool) → cond t 0 (entryOr (m .default) 0) ≤ 2 ^ 36
     other true = omega arith
@@ -204,11 +204,11 @@ setup-small m last this own h r l o = go (m .present) refl
     is : ℕ → Bool
     is i = entryCell p (getD (m .initials) i (pos 0))
 
-    parts : (ownRight p (m .default) ≡ true) × (ownRight p (m .initial) ≡ true) × (every ts 256 ≡ true) × (every is 16 ≡ true)
+    parts : (ownRight p (m .default) ≡ true) × (ownRight p (m .initial) ≡ true) × (everyFrom ts 0 256 ≡ true) × (everyFrom is 0 16 ≡ true)
     parts =
-        let h1 = and-split (ownRight p (m .default)) (ownRight p (m .initial) && (every ts 256 && every is 16)) h in
-        let h2 = and-split (ownRight p (m .initial)) (every ts 256 && every is 16) (h1 .1) in
-        let h3 = and-split (every ts 256) (every is 16) (h2 .1) in
+        let h1 = and-split (ownRight p (m .default)) (ownRight p (m .initial) && (everyFrom ts 0 256 && everyFrom is 0 16)) h in
+        let h2 = and-split (ownRight p (m .initial)) (everyFrom ts 0 256 && everyFrom is 0 16) (h1 .1) in
+        let h3 = and-split (everyFrom ts 0 256) (everyFrom is 0 16) (h2 .1) in
         (h1 .0, h2 .0, h3 .0, h3 .1)
 
     go : (t : Bool) → m .present ≡ t → cond t (matrixSetup m last this) own ≤ 2 ^ 36

@@ -1,9 +1,9 @@
 -- The table of places against the board, and the setup by a matrix.
 use borrow.Author.Tests.{leb-true, eq-eqb, ne-eqb}
-use mathlib.Core.Bool.{Bool, true, false, true≢false}
+use mathlib.Core.Bool.{true, false, true≢false}
 use mathlib.Core.List.{List}
 use mathlib.Core.Path.{_≡_, refl, sym, _∙_}
-use Prim.Native.Nat.{ℕ, zero, suc, _+_, _*_, _/_, _%_, _≤_, _<_, min}
+use Prim.Native.Nat.{ℕ, suc, _+_, _*_, _/_, _%_, _≤_, _<_, min}
 use native.Mathlib.Omega.{arith}
 use lib.Dec.{ltb}
 use lib.IntN.{pos}
@@ -11,7 +11,8 @@ use lib.ListN.{getD, set}
 use Rattle.board.specs.Places.{placeOf}
 use Rattle.board.specs.Resources.{numberAt, lookupTo, lookup, isAt}
 use Rattle.board.specs.Setups.{entryOr, matrixSetup, setupMs}
-use Rattle.board.specs.Valid.{everyFrom, every, lastRight, transportCell, transportRight, valid}
+use Rattle.calendar.specs.Every.{everyFrom, from-same}
+use Rattle.board.specs.Valid.{lastRight, transportCell, transportRight, valid}
 use Rattle.board.specs.declared.Board.{Board}
 use Rattle.board.specs.declared.LastCategory.{LastCategory}
 use Rattle.board.specs.declared.LastCategory.the-variants.{Nothing, Category}
@@ -36,19 +37,11 @@ seen-at b i n places s l m k =
     let p : min i (b .len) ≡ i = omega arith in
     seen-on b i n places (rw p at s) k m
 
-from-same : (P Q : ℕ → Bool) (i k : ℕ) → ((j : ℕ) → i ≤ j → j < i + k → P j ≡ Q j) → everyFrom P i k ≡ everyFrom Q i k
-unfolding everyFrom
-from-same P Q i zero g = refl
-from-same P Q i (suc k) g = rw (g i (omega arith) (omega arith), from-same P Q (suc i) k (λ j l m. g j (omega arith) (omega arith))) refl
-
-every-same : (P Q : ℕ → Bool) (n : ℕ) → ((k : ℕ) → k < n → P k ≡ Q k) → every P n ≡ every Q n
-every-same P Q n f = from-same P Q 0 n (λ k l m. f k (omega arith))
-
 pub transport-same : (b : Board) (places : List ℕ) → Seen b (b .len) places → b .len ≤ 16
-    → every (λ k. transportCell (getD (b .transport) k 0) (ltb (getD places (k / 16) 0) 16) (ltb (getD places (k % 16) 0) 16)) 256 ≡ every (transportRight b) 256
+    → everyFrom (λ k. transportCell (getD (b .transport) k 0) (ltb (getD places (k / 16) 0) 16) (ltb (getD places (k % 16) 0) 16)) 0 256 ≡ everyFrom (transportRight b) 0 256
 unfolding transportRight
 transport-same b places s l =
-    every-same _ _ 256 (λ k m. rw (seen-on b (b .len) (k / 16) places s (omega arith) l, seen-on b (b .len) (k % 16) places s (omega arith) l) refl)
+    from-same _ _ 0 256 (λ k z m. rw (seen-on b (b .len) (k / 16) places s (omega arith) l, seen-on b (b .len) (k % 16) places s (omega arith) l) refl)
 
 -- a board that breaks the rules promises no places
 pub refuted : (b : Board) (places : List ℕ) → valid b ≡ false

@@ -1,10 +1,11 @@
 -- An empty board, and the replies of 'Board entries': 15 before all else, then 5, 1 and 4 in 01's order.
-use Prim.Native.Nat.{ℕ, zero, suc, _+_, _-_, _*_, _^_}
+use Prim.Native.Nat.{ℕ, zero, suc, _+_, _-_, _*_}
 use mathlib.Core.Bool.{Bool, true, false, not, cond, _&&_, _||_}
 use mathlib.Core.List.{List, _++_}
-use lib.ListN.{length, getD, set, replicate}
+use lib.ListN.{length, set, replicate}
 use lib.Dec.{leb, ltb}
 use lib.IntN.{ℤ, pos, negsuc}
+use Rattle.calendar.specs.Every.{every}
 use Rattle.calendar.specs.Limits.{longestDuration}
 use Rattle.calendar.specs.Add.{empty}
 use Rattle.calendar.specs.Search.{Found, nothing, at}
@@ -17,7 +18,7 @@ use Rattle.board.specs.declared.Board.{Board}
 use Rattle.board.specs.declared.Entered.{Entered}
 use Rattle.board.specs.declared.Looked.{Looked}
 use Rattle.board.specs.Resources.{resourceAt, lookup, onBoard}
-use Rattle.board.specs.Valid.{every, durationRight, entryRight, valid}
+use Rattle.board.specs.Valid.{durationRight, entryRight, valid}
 
 -- a cell past the length
 abbrev pub blankDiary : ResourceTimeline
@@ -58,7 +59,7 @@ changed b (at i) f = withResource b i (f (resourceAt b i))
 unfoldable pub addRefusal : Board → ℕ → List ℕ → ResourceTimeline → ℕ
 addRefusal b number companions t =
     cond (not (valid b) || not (timeline.valid t)) 15
-    (cond (ltb 15 number || not (every (λ i. leb (getD companions i 0) 15) (length companions))) 5
+    (cond (ltb 15 number || not (every (λ companion. leb companion 15) companions)) 5
     (cond (onBoard b number || ltb 4 (length companions)) 4 0))
 
 abbrev pub companionCells : List ℕ → List ℕ

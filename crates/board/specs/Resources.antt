@@ -1,11 +1,12 @@
 -- The board paragraph of 'Placing': the resources in board order, and where a resource number stands among them.
 use Prim.Native.Nat.{ℕ}
-use mathlib.Core.Bool.{Bool, true, false}
+use mathlib.Core.Bool.{Bool, false}
 use mathlib.Core.List.{List, []}
 use lib.ListN.{getD, take}
 use lib.Dec.{eqb}
 use lib.IntN.{pos}
-use Rattle.calendar.specs.Search.{Found, nothing, at, leastFrom}
+use Rattle.calendar.specs.Search.{Found, leastFrom}
+unfoldable pub use Rattle.calendar.specs.Search.{isAt}
 use Rattle.timeline.specs.declared.ResourceTimeline.{ResourceTimeline}
 use Rattle.board.specs.declared.TransitionMatrix.{TransitionMatrix}
 use Rattle.board.specs.declared.LastCategory.the-variants.{Nothing}
@@ -48,10 +49,6 @@ lookupTo b n number = leastFrom (λ i. eqb (numberAt b i) number) 0 n
 -- the place of a resource number on the board
 abbrev pub lookup : Board → ℕ → Found
 lookup b number = lookupTo b (b .len) number
-
-unfoldable pub isAt : Found → Bool
-isAt nothing = false
-isAt (at i) = true
 
 abbrev pub onBoard : Board → ℕ → Bool
 onBoard b number = isAt (lookup b number)

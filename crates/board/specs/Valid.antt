@@ -1,12 +1,13 @@
 -- When a board keeps the rules: its length, each resource's number, companions, diary, matrix and last category, no number twice, the
 -- transport, and 0 in every cell past a length.
-use Prim.Native.Nat.{ℕ, zero, suc, _/_, _%_, _^_}
+use Prim.Native.Nat.{ℕ, _/_, _%_}
 use mathlib.Core.Bool.{Bool, true, false, not, cond, _&&_, _||_}
 use mathlib.Core.List.{List}
 use lib.ListN.{getD}
 use lib.Dec.{leb, ltb, eqb}
 use lib.IntN.{ℤ, pos, negsuc}
 use Rattle.calendar.specs.Limits.{longestDuration}
+unfoldable pub use Rattle.calendar.specs.Every.{everyFrom}
 use Rattle.calendar.specs.declared.Calendar.{Calendar}
 use Rattle.calendar.specs.Valid as calendar
 use Rattle.timeline.specs.declared.ResourceTimeline.{ResourceTimeline}
@@ -18,11 +19,7 @@ use Rattle.board.specs.declared.Resource.{Resource}
 use Rattle.board.specs.declared.Board.{Board}
 use Rattle.board.specs.Resources.{resourceAt, numberAt, lookupTo, isAt, onBoard}
 
--- the k cells from cell i on pass the test
-unfoldable pub everyFrom : (ℕ → Bool) → ℕ → ℕ → Bool
-everyFrom P i zero = true
-everyFrom P i (suc k) = P i && everyFrom P (suc i) k
-
+-- the first n cells
 abbrev pub every : (ℕ → Bool) → ℕ → Bool
 every P n = everyFrom P 0 n
 
@@ -51,15 +48,15 @@ unfoldable pub matrixRight : TransitionMatrix → Bool
 matrixRight m =
     ownRight (m .present) (m .default)
     && (ownRight (m .present) (m .initial)
-    && (every (λ i. entryCell (m .present) (getD (m .transitions) i (pos 0))) 256
-    && every (λ i. entryCell (m .present) (getD (m .initials) i (pos 0))) 16))
+    && (everyFrom (λ i. entryCell (m .present) (getD (m .transitions) i (pos 0))) 0 256
+    && everyFrom (λ i. entryCell (m .present) (getD (m .initials) i (pos 0))) 0 16))
 
 -- up to 4 companions, numbered 0 to 15
 abbrev pub companionCell : ℕ → ℕ → ℕ → Bool
 companionCell n i companion = cond (ltb i n) (leb companion 15) (eqb companion 0)
 
 unfoldable pub companionsRight : List ℕ → ℕ → Bool
-companionsRight cs n = leb n 4 && every (λ i. companionCell n i (getD cs i 0)) 4
+companionsRight cs n = leb n 4 && everyFrom (λ i. companionCell n i (getD cs i 0)) 0 4
 
 -- categories are 0 to 15
 unfoldable pub lastRight : LastCategory → Bool
@@ -84,7 +81,7 @@ diaryBlank t =
     && (eqb (t .len) 0
     && (eqb (t .booked) 0
     && (calendarBlank (t .calendar)
-    && every (timeline.emptyAt t) 64)))
+    && everyFrom (timeline.emptyAt t) 0 64)))
 
 unfoldable pub lastBlank : LastCategory → Bool
 lastBlank Nothing = true
@@ -117,4 +114,4 @@ unfoldable pub transportRight : Board → ℕ → Bool
 transportRight b k = transportCell (getD (b .transport) k 0) (onBoard b (k / 16)) (onBoard b (k % 16))
 
 unfoldable pub valid : Board → Bool
-valid b = leb (b .len) 16 && (every (cellRight b) 16 && every (transportRight b) 256)
+valid b = leb (b .len) 16 && (everyFrom (cellRight b) 0 16 && everyFrom (transportRight b) 0 256)

@@ -1,17 +1,16 @@
 -- The rules of a calendar as facts; spans with one more keep them.
 use mathlib.Core.Path.{_≡_, refl}
 use mathlib.Core.Bool.{Bool, true, false, _&&_, cond}
-use mathlib.Core.Logic.{_⊎_, ⊎-elim}
-use Prim.Native.Nat.{ℕ, zero, suc, _+_, _-_, _^_, _≤_, _<_}
-use native.Mathlib.Nat.{eq-or-lt-of-le}
-use native.Mathlib.Numerals.{add-one}
+use mathlib.Core.Logic.{⊎-elim}
+use Prim.Native.Nat.{ℕ, _^_, _≤_, _<_}
 use native.Mathlib.Omega.{arith}
 use lib.ListN.{getD}
 use lib.Dec.{leb, ltb, eqb}
 use borrow.Author.Tests.{leb-true, ltb-true, ltb-false, eqb-true, le-leb, lt-ltb, le-ltb, eq-eqb}
 use Rattle.calendar.specs.declared.TimeWindows.{TimeWindows}
 use Rattle.calendar.specs.declared.Calendar.{Calendar}
-use Rattle.calendar.specs.Valid.{cellRight, cellsRight, spansRight, valid}
+use Rattle.calendar.specs.Valid.{cellRight, cellAt, spansRight, valid}
+use Rattle.calendar.specs.Every.{everyFrom, from-at, from-all}
 use Rattle.calendar.specs.Basics.{and-split, and-join, lt-or-ge}
 
 -- cell i of a list of n spans
@@ -41,29 +40,6 @@ cell-right i n s e f =
     (λ (l : n ≤ i). simp (le-ltb i n l, eq-eqb s 0 (f .empty l .0), eq-eqb e 0 (f .empty l .1)))
     (lt-or-ge i n)
 
--- the loop over the cells goes on by one
-pub cells-step : (l : TimeWindows) (i : ℕ) → i < 32 → cellsRight l i (32 - i) ≡ cellRight i (l .len) (getD (l .starts) i 0) (getD (l .ends) i 0) && cellsRight l (i + 1) (32 - (i + 1))
-unfolding cellsRight
-cells-step l i h =
-    let e : 32 - i ≡ suc (32 - (i + 1)) = omega arith in
-    rw (e, add-one i)
-
-cells-at : (l : TimeWindows) (i k : ℕ) → cellsRight l i k ≡ true → (j : ℕ) → i ≤ j → j < i + k → Cell j (l .len) (getD (l .starts) j 0) (getD (l .ends) j 0)
-unfolding cellsRight
-cells-at l i zero h j a b = absurd (omega arith)
-cells-at l i (suc k) h j a b =
-    let w = and-split (cellRight i (l .len) (getD (l .starts) i 0) (getD (l .ends) i 0)) (cellsRight l (suc i) k) h in
-    ⊎-elim
-    (λ (eq : i ≡ j). rw (← eq) (cell-facts i (l .len) _ _ (w .0)))
-    (λ (lt : i < j). cells-at l (suc i) k (w .1) j lt (omega arith))
-    (eq-or-lt-of-le a)
-
-cells-all : (l : TimeWindows) (i k : ℕ) → ((j : ℕ) → i ≤ j → j < i + k → Cell j (l .len) (getD (l .starts) j 0) (getD (l .ends) j 0)) → cellsRight l i k ≡ true
-unfolding cellsRight
-cells-all l i zero f = refl
-cells-all l i (suc k) f =
-    and-join _ _ (cell-right i (l .len) _ _ (f i (omega arith) (omega arith))) (cells-all l (suc i) k (λ j h g. f j (omega arith) (omega arith)))
-
 -- what the rules say of a list of spans
 pub record Right (l : TimeWindows) : Type 0 where
   pub few : l .len ≤ 32
@@ -72,12 +48,12 @@ pub record Right (l : TimeWindows) : Type 0 where
 pub right : (l : TimeWindows) → spansRight l ≡ true → Right l
 unfolding spansRight
 right l h =
-    let w = and-split (leb (l .len) 32) (cellsRight l 0 32) h in
-    record { few = leb-true _ _ (w .0); cells = λ j g. cells-at l 0 32 (w .1) j (omega arith) g }
+    let w = and-split (leb (l .len) 32) (everyFrom (cellAt l) 0 32) h in
+    record { few = leb-true _ _ (w .0); cells = λ j g. cell-facts j (l .len) _ _ (from-at (cellAt l) 0 32 (w .1) j (omega arith) g) }
 
 pub righted : (l : TimeWindows) → Right l → spansRight l ≡ true
 unfolding spansRight
-righted l r = and-join _ _ (le-leb (l .len) 32 (r .few)) (cells-all l 0 32 (λ j a b. r .cells j b))
+righted l r = and-join _ _ (le-leb (l .len) 32 (r .few)) (from-all (cellAt l) 0 32 (λ j a b. cell-right j (l .len) _ _ (r .cells j b)))
 
 -- each span begins before it ends, and ends at an instant
 pub filled : (l : TimeWindows) → spansRight l ≡ true → (j : ℕ) → j < l .len → (getD (l .starts) j 0 < getD (l .ends) j 0) × (getD (l .ends) j 0 ≤ 2 ^ 42)

@@ -2,12 +2,12 @@
 use mathlib.Core.Path.{_≡_, refl, sym, _∙_}
 use mathlib.Core.Bool.{Bool, true, false, _&&_, _||_, cond}
 pub use mathlib.Core.Bool.{and-assoc, and-true, and-false, or-true, or-false, or-assoc}
-use mathlib.Core.List.{List}
+use mathlib.Core.List.{List, [], _∷_, _++_}
 use mathlib.Core.Logic.{_⊎_, inl, inr, ⊎-elim}
-use Prim.Native.Nat.{ℕ, suc, _+_, _≤_, _<_}
+use Prim.Native.Nat.{ℕ, suc, _+_, _-_, _≤_, _<_}
 use native.Mathlib.Omega.{arith}
-use lib.ListN.{length, getD, set}
-use lib.Seq.{getD-set-same, getD-set-other}
+use lib.ListN.{length, getD, set, take, drop}
+use lib.Seq.{getD-set-same, getD-set-other, take-suc, take-add}
 use lib.Dec.{ltb, eqb}
 use borrow.Author.Tests.{ltb-true, ltb-false, eqb-true, eqb-false}
 
@@ -60,3 +60,15 @@ filled-next f xs i v d l h e k m =
     (λ (z : i ≡ k). rw (← z) (getD-set-same xs i v d l ∙ e))
     (λ (z : k ≡ i → ⊥). getD-set-other xs i k v d z ∙ h k (omega (arith, z)))
     (same-or-not i k)
+
+-- the first cells of an array: one more
+pub take-next : {A : Type 0} (xs : List A) (i : ℕ) (d : A) → i < length xs → take (i + 1) xs ≡ take i xs ++ (getD xs i d ∷ [])
+take-next xs i d l =
+    let z : i + 1 ≡ suc i = omega arith in
+    rw z (take-suc xs i d l)
+
+-- the first i + 1 of n, and the rest
+pub take-split : {A : Type 0} (xs : List A) (i n : ℕ) → i < n → take n xs ≡ take (i + 1) xs ++ take (n - (i + 1)) (drop (i + 1) xs)
+take-split xs i n l =
+    let z : i + 1 + (n - (i + 1)) ≡ n = omega arith in
+    rw z at (take-add (i + 1) (n - (i + 1)) xs)

@@ -1,15 +1,16 @@
--- The limits of document 01, what a refusal is, sets, and the least instant; then document 01, 'Calendar' and the replies of 'Window or block', in
--- its order; then laws of tests and spans, what the definitions amount to, and runs of them.
+-- The limits of document 01, what a refusal is, sets, the least instant, and 'each' with its laws; then document 01, 'Calendar' and the replies of
+-- 'Window or block', in its order; then laws of spans, what the definitions amount to, and runs of them.
 pub mod Limits
 pub mod Refusals
 pub mod Sets
 pub mod Search
+pub mod Basics
+pub mod Every
 pub mod Spans
 pub mod Valid
 pub mod Fits
 pub mod Work
 pub mod Add
-pub mod Basics
 pub mod Spanning
 pub mod Meaning
 pub mod Runs

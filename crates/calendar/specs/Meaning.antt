@@ -20,8 +20,9 @@ use Rattle.calendar.specs.Work.{working, joint, endFrom, workEnd, latest
 use Rattle.calendar.specs.Add.{withSpan}
 use Rattle.calendar.specs.Spanning.{open-some, open-by-none, open-by-some, any-some, any-none, some-any, none-any, holds-yes, holds-facts, meets-yes, meets-no, contains-yes, contains-no, contains-facts}
 
-never : (e : ℕ) → nothing ≡ at e → ⊥
-never e q = let z : _≡_ {A = ℕ} 0 1 = cc in omega arith
+-- nothing is no instant
+pub not-at : (e : ℕ) → nothing ≡ at e → ⊥
+not-at e q = let z : _≡_ {A = ℕ} 0 1 = cc in omega arith
 
 -- The search: s is the least of the n instants from `from` on at which P holds ..
 pub record Least (P : ℕ → Bool) (from n s : ℕ) : Type 0 where
@@ -32,7 +33,7 @@ pub record Least (P : ℕ → Bool) (from n s : ℕ) : Type 0 where
 
 pub least-found : (P : ℕ → Bool) (from n s : ℕ) → leastFrom P from n ≡ at s → Least P from n s
 unfolding leastFrom
-least-found P from zero s e = absurd (never s e)
+least-found P from zero s e = absurd (not-at s e)
 least-found P from (suc n) s e = go (P from) refl e (least-found P (suc from) n s)
   where
     go : (b : Bool) → P from ≡ b → elim b [ true ↦ at from | false ↦ leastFrom P (suc from) n ] ≡ at s → (leastFrom P (suc from) n ≡ at s → Least P (suc from) n s) → Least P from (suc n) s
@@ -55,7 +56,7 @@ least-none P from zero e x a b = absurd (omega arith)
 least-none P from (suc n) e x a b = go (P from) refl e (λ f g. least-none P (suc from) n f x g (omega arith))
   where
     go : (b : Bool) → P from ≡ b → elim b [ true ↦ at from | false ↦ leastFrom P (suc from) n ] ≡ nothing → (leastFrom P (suc from) n ≡ nothing → suc from ≤ x → P x ≡ false) → P x ≡ false
-    go true q f ih = absurd (never from (sym f))
+    go true q f ih = absurd (not-at from (sym f))
     go false q f ih = ⊎-elim (λ (z : from ≡ x). rw (← z) q) (λ (z : from < x). ih f z) (eq-or-lt-of-le a)
 
 -- two tests that agree where they are tried find the same
@@ -145,7 +146,7 @@ end-found W p zero n e q =
     let z : p ≡ e = cc in
     let y : e - p ≡ 0 = omega arith in
     (record { low = omega arith; done = rw y refl; first = λ y a b. absurd (omega arith) }, omega arith)
-end-found W p (suc w) zero e q = absurd (never e q)
+end-found W p (suc w) zero e q = absurd (not-at e q)
 end-found W p (suc w) (suc n) e q = go (W p) refl q (end-found W (suc p) w n e) (end-found W (suc p) (suc w) n e)
   where
     go : (b : Bool) → W p ≡ b → elim b [ true ↦ endFrom W (suc p) w n | false ↦ endFrom W (suc p) (suc w) n ] ≡ at e
@@ -156,7 +157,7 @@ end-found W p (suc w) (suc n) e q = go (W p) refl q (end-found W (suc p) w n e) 
 
 end-none : (W : ℕ → Bool) (p w n : ℕ) → endFrom W p w n ≡ nothing → worked W p n < w
 unfolding endFrom worked
-end-none W p zero n q = absurd (never p (sym q))
+end-none W p zero n q = absurd (not-at p (sym q))
 end-none W p (suc w) zero q = omega arith
 end-none W p (suc w) (suc n) q = go (W p) q (end-none W (suc p) w n) (end-none W (suc p) (suc w) n)
   where
@@ -176,7 +177,7 @@ work-end-found last W p w e q = go (W p) refl q
   where
     go : (b : Bool) → W p ≡ b → elim b [ true ↦ endFrom W p w (last - p + w) | false ↦ nothing ] ≡ at e → (b ≡ true) × Ends W p w e
     go true t f = (refl, end-found W p w (last - p + w) e f .0)
-    go false t f = absurd (never e f)
+    go false t f = absurd (not-at e f)
 
 -- .. and with nothing exactly from a pause, or where there are never w working milliseconds from p on, however far one looks
 pub work-end-none : (last : ℕ) (W : ℕ → Bool) (p w : ℕ) → Changeless last W → workEnd last W p w ≡ nothing → (W p ≡ false) ⊎ ((n : ℕ) → worked W p n < w)

@@ -1,10 +1,11 @@
 -- 01, 'Calendar': when a calendar keeps the rules: at most 32 windows and 32 blocks, each with start < end and both instants, and 0 in
 -- every cell past a length.
-use Prim.Native.Nat.{ℕ, zero, suc, _^_}
-use mathlib.Core.Bool.{Bool, true, _&&_, cond}
+use Prim.Native.Nat.{ℕ}
+use mathlib.Core.Bool.{Bool, _&&_, cond}
 use lib.ListN.{getD}
 use lib.Dec.{leb, ltb, eqb}
 use Rattle.calendar.specs.Limits.{lastInstant, mostSpans}
+use Rattle.calendar.specs.Every.{everyFrom}
 use Rattle.calendar.specs.declared.TimeWindows.{TimeWindows}
 use Rattle.calendar.specs.declared.Calendar.{Calendar}
 
@@ -12,13 +13,11 @@ use Rattle.calendar.specs.declared.Calendar.{Calendar}
 unfoldable pub cellRight : ℕ → ℕ → ℕ → ℕ → Bool
 cellRight i n s e = cond (ltb i n) (ltb s e && leb e lastInstant) (eqb s 0 && eqb e 0)
 
--- the k cells from cell i on
-unfoldable pub cellsRight : TimeWindows → ℕ → ℕ → Bool
-cellsRight l i zero = true
-cellsRight l i (suc k) = cellRight i (l .len) (getD (l .starts) i 0) (getD (l .ends) i 0) && cellsRight l (suc i) k
+abbrev pub cellAt : TimeWindows → ℕ → Bool
+cellAt l i = cellRight i (l .len) (getD (l .starts) i 0) (getD (l .ends) i 0)
 
 unfoldable pub spansRight : TimeWindows → Bool
-spansRight l = leb (l .len) mostSpans && cellsRight l 0 mostSpans
+spansRight l = leb (l .len) mostSpans && everyFrom (cellAt l) 0 mostSpans
 
 unfoldable pub valid : Calendar → Bool
 valid c = spansRight (c .windows) && spansRight (c .blocks)

@@ -9,7 +9,7 @@ use lib.ListN.{length}
 use lib.Dec.{leb, ltb, eqb}
 use borrow.Author.Tests.{lt-leb, le-ltb, lt-ltb, le-leb, ltb-false, leb-false, not-false, not-true, ne-eqb}
 use Rattle.calendar.specs.Basics.{unrefused, same-or-not}
-use Rattle.activity.specs.Check.{every}
+use Rattle.calendar.specs.Every.{every}
 use Rattle.board.specs.declared.Board.{Board}
 use Rattle.board.specs.Resources.{onBoard}
 use Rattle.board.specs.Valid as board

@@ -1,16 +1,16 @@
 -- The checks of the rows of a slate, and what they say of its lines.
-use mathlib.Core.Path.{_≡_, refl, sym, ap, _∙_}
+use mathlib.Core.Path.{_≡_, refl, sym, ap, _∙_, fun-ext}
 use mathlib.Core.Bool.{Bool, true, false, _&&_, cond}
-use mathlib.Core.List.{List, [], _∷_, _++_, map}
+use mathlib.Core.List.{List, [], _∷_, _++_, map, map-append}
 use mathlib.Core.Logic.{⊎-elim}
 use Prim.Native.Nat.{ℕ, zero, suc, _+_, _≤_, _<_}
 use native.Mathlib.Omega.{arith}
 use lib.ListN.{length, getD, set, take, replicate, getD-replicate}
 use lib.Dec.{leb, ltb, eqb}
 use lib.Seq.{getD-set-same, getD-set-other}
-use borrow.Author.Tests.{ltb-true, lt-ltb, le-ltb, lt-leb, le-leb, eq-eqb, eqb-true}
+use borrow.Author.Tests.{ltb-true, lt-ltb, le-ltb, lt-leb, le-leb, eq-eqb, ne-eqb}
 use Rattle.calendar.specs.Basics.{and-split, and-false, same-or-not}
-use Rattle.activity.specs.Check.{every}
+use Rattle.calendar.specs.Every.{every, every-map, every-where}
 use Rattle.board.specs.declared.Board.{Board}
 use Rattle.board.specs.Resources.{isAt, onBoard}
 use Rattle.board.specs.Valid.{valid}
@@ -28,31 +28,6 @@ use Rattle.commit_checks.specs.Lines.{numbered, metered, roomy, Counted,
 pub lines-rows : (n : ℕ) (slate : List (List ℕ)) → linesOf n slate ≡ map lineOf (take n slate)
 unfolding linesOf
 lines-rows n slate = refl
-
-every-map : {A B : Type 0} (P : B → Bool) (f : A → B) (xs : List A) → every P (map f xs) ≡ every (λ x. P (f x)) xs
-unfolding every
-every-map P f [] = refl
-every-map P f (x ∷ xs) = ap (λ (q : Bool). P (f x) && q) (every-map P f xs)
-
--- two tests that agree where a third holds
-every-same : {A : Type 0} (N P Q : A → Bool) (xs : List A) → ((x : A) → N x ≡ true → P x ≡ Q x) → every N xs ≡ true → every P xs ≡ every Q xs
-unfolding every
-every-same N P Q [] h e = refl
-every-same N P Q (x ∷ xs) h e =
-    let w = and-split (N x) (every N xs) e in
-    rw (h x (w .0), every-same N P Q xs h (w .1)) refl
-
-every-both : {A : Type 0} (P Q : A → Bool) (xs : List A) → ((x : A) → P x ≡ Q x) → every P xs ≡ every Q xs
-unfolding every
-every-both P Q [] h = refl
-every-both P Q (x ∷ xs) h = rw (h x, every-both P Q xs h) refl
-
-pub every-at : {A : Type 0} (P : A → Bool) (d : A) (n : ℕ) (xs : List A) → n ≤ length xs → every P (take n xs) ≡ true → (k : ℕ) → k < n → P (getD xs k d) ≡ true
-unfolding every
-every-at P d zero xs l e k m = absurd (omega arith)
-every-at P d (suc n) [] l e k m = absurd (omega arith)
-every-at P d (suc n) (x ∷ xs) l e zero m = and-split (P x) (every P (take n xs)) e .0
-every-at P d (suc n) (x ∷ xs) l e (suc k) m = every-at P d n xs (omega arith) (and-split (P x) (every P (take n xs)) e .1) k (omega arith)
 
 -- one row
 module _ (places row : List ℕ) where
@@ -102,12 +77,8 @@ unfolding entriesOn
 entries-more k [] l = omega arith
 entries-more k (x ∷ ls) l = omega (arith, entries-more k ls l)
 
-map-more : (rows : List (List ℕ)) (row : List ℕ) → map lineOf (rows ++ (row ∷ [])) ≡ map lineOf rows ++ (lineOf row ∷ [])
-map-more [] row = refl
-map-more (x ∷ rows) row = ap (λ (ls : List Line). lineOf x ∷ ls) (map-more rows row)
-
 lines-next : (slate : List (List ℕ)) (i : ℕ) → i < length slate → linesOf (i + 1) slate ≡ linesOf i slate ++ (lineOf (getD slate i []) ∷ [])
-lines-next slate i l = lines-rows (i + 1) slate ∙ ap (map lineOf) (take-next slate i [] l) ∙ map-more (take i slate) (getD slate i []) ∙ sym (ap (λ (ls : List Line). ls ++ (lineOf (getD slate i []) ∷ [])) (lines-rows i slate))
+lines-next slate i l = lines-rows (i + 1) slate ∙ ap (map lineOf) (take-next slate i [] l) ∙ map-append lineOf (take i slate) (getD slate i [] ∷ []) ∙ sym (ap (λ (ls : List Line). ls ++ (lineOf (getD slate i []) ∷ [])) (lines-rows i slate))
 
 pub entries-few : (k n : ℕ) (slate : List (List ℕ)) → entriesOn k (linesOf n slate) ≤ n
 unfolding entriesOn linesOf
@@ -132,18 +103,11 @@ counted-next slate i tally long l m h k n =
     (λ (z : number ≡ k).
     rw (eq-eqb number k z, ← h k n, ← z) (sym (getD-set-same tally number (getD tally number 0 + 1) 0 (omega (arith, long)))))
     (λ (z : k ≡ number → ⊥).
-    rw (other z, ← h k n) (plain ∙ sym (getD-set-other tally number k (getD tally number 0 + 1) 0 z)))
+    rw (ne-eqb number k (λ e. z (sym e)), ← h k n) (plain ∙ sym (getD-set-other tally number k (getD tally number 0 + 1) 0 z)))
     (same-or-not number k))
   where
     number : ℕ
     number = getD (getD slate i []) 0 0
-
-    other : (k ≡ number → ⊥) → eqb number k ≡ false
-    other z = go (eqb number k) refl
-      where
-        go : (q : Bool) → eqb number k ≡ q → q ≡ false
-        go true e = absurd (z (sym (eqb-true number k e)))
-        go false e = refl
 
     plain : getD tally k 0 + 0 ≡ getD tally k 0
     plain = omega arith
@@ -160,7 +124,7 @@ module _ (b : Board) (v : valid b ≡ true) (places : List ℕ) (known : Known b
 
   pub numbers-lines : (n : ℕ) (slate : List (List ℕ)) → every (numbered places) (take n slate) ≡ every (λ l. onBoard b (l .number)) (linesOf n slate)
   numbers-lines n slate =
-      every-both (numbered places) (λ row. onBoard b (lineOf row .number)) (take n slate) numbered-is
+      ap (λ (T : List ℕ → Bool). every T (take n slate)) (fun-ext numbered-is)
       ∙ sym (every-map (λ l. onBoard b (l .number)) lineOf (take n slate))
       ∙ sym (ap (every (λ (l : Line). onBoard b (l .number))) (lines-rows n slate))
 
@@ -169,12 +133,12 @@ module _ (b : Board) (v : valid b ≡ true) (places : List ℕ) (known : Known b
     unfolding roomy
     roomy-is row e =
         let w = number-place b v places known (lineOf row .number) (sym (numbered-is row) ∙ e) in
-        rw (counted (lineOf row .number) (w .0), long (getD places (lineOf row .number) 0) (w .2), diary-at b v (lineOf row .number) (getD places (lineOf row .number) 0) (w .1)) refl
+        rw (counted (lineOf row .number) (w .0), long (getD places (lineOf row .number) 0) (w .2), diary-at b (lineOf row .number) (getD places (lineOf row .number) 0) (w .1)) refl
 
     pub room-lines : every (numbered places) (take n slate) ≡ true
         → every (roomy places lens tally) (take n slate) ≡ every (λ l. leb (diaryOf b (l .number) .len + entriesOn (l .number) (linesOf n slate)) 64) (linesOf n slate)
     room-lines e =
-        every-same (numbered places) (roomy places lens tally) (λ row. leb (diaryOf b (lineOf row .number) .len + entriesOn (lineOf row .number) (linesOf n slate)) 64) (take n slate) roomy-is e
+        every-where (numbered places) (roomy places lens tally) (λ row. leb (diaryOf b (lineOf row .number) .len + entriesOn (lineOf row .number) (linesOf n slate)) 64) (take n slate) roomy-is e
         ∙ sym (every-map (λ l. leb (diaryOf b (l .number) .len + entriesOn (l .number) (linesOf n slate)) 64) lineOf (take n slate))
         ∙ sym (ap (every (λ (l : Line). leb (diaryOf b (l .number) .len + entriesOn (l .number) (linesOf n slate)) 64)) (lines-rows n slate))
 

@@ -137,7 +137,7 @@ module _ (start end category : ℕ) (places : List ℕ) (whole b : Board) (l : L
         found = w .1;
         place-low = omega (arith, w .2, rules b (a .valid) .few);
         kept = resource-of b (a .valid) place (w .2) .timeline;
-        free = subst (λ (t : ResourceTimeline). t .len < 64) (diary-at b (a .valid) (l .number) place (w .1)) has-room;
+        free = subst (λ (t : ResourceTimeline). t .len < 64) (diary-at b (l .number) place (w .1)) has-room;
         some = mine .some;
         few = mine .few;
       }

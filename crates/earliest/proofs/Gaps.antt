@@ -28,7 +28,7 @@ use Rattle.timeline.proofs.Stepping.{fits-at-back, last-still}
 load-ge : (bs : List Booking) (s e p k : ℕ) → k < length bs → On (getD bs k none .start) (getD bs k none .end) s e p → getD bs k none .units ≤ load bs s e p
 unfolding load
 load-ge [] s e p k l o = absurd (omega arith)
-load-ge (b ∷ bs) s e p zero l o = rw (is-on (b .start) (b .end) s e p o) (omega arith)
+load-ge (b ∷ bs) s e p zero l o = rw (is-on b s e p o) (omega arith)
 load-ge (b ∷ bs) s e p (suc k) l o = omega (arith, load-ge bs s e p k (omega arith) o)
 
 -- no booking that is on: no load
@@ -36,7 +36,7 @@ load-zero : (bs : List Booking) (s e p : ℕ) → ((k : ℕ) → k < length bs �
 unfolding load
 load-zero [] s e p f = refl
 load-zero (b ∷ bs) s e p f =
-    let x : onAt (b .start) (b .end) s e p ≡ false = no-way _ (λ t. f 0 (omega arith) (on _ _ _ _ _ t)) in
+    let x : onAt b s e p ≡ false = no-way _ (λ t. f 0 (omega arith) (on b s e p t)) in
     rw (x, load-zero bs s e p (λ k l. f (suc k) (omega arith))) refl
 
 -- capacity 1, no windows and no blocks

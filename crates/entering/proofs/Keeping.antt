@@ -5,7 +5,6 @@ use mathlib.Core.List.{List}
 use mathlib.Core.Logic.{⊎-elim}
 use mathlib.Core.Path.{_≡_, refl, sym, ap, _∙_}
 use Prim.Native.Nat.{ℕ, zero, suc, _+_, _-_, _*_, _/_, _%_, _^_, _≤_, _<_}
-use native.Mathlib.Nat.{eq-or-lt-of-le}
 use native.Mathlib.Numerals.{add-one}
 use native.Mathlib.Omega.{arith}
 use lib.Dec.{leb, eqb}
@@ -16,12 +15,12 @@ use Rattle.calendar.specs.Basics.{and-split, and-join, lt-or-ge, same-or-not}
 use Rattle.calendar.specs.Search.{Found, nothing, at}
 use Rattle.board.specs.Enter.{entered, companionCells, newResource, withNew, addResourceReply, matrixRefusal, newMatrix, withMatrix, setMatrixReply, entryRefusal, matrixOf, withTransition, withInitial, setTransitionReply, setInitialReply, withTransport, setTransportReply, withTimeline, putRefusal, putTimelineReply}
 use Rattle.board.specs.Resources.{noResource, resourceAt, numberAt, lookupTo, isAt, onBoard}
-use Rattle.board.specs.Valid.{everyFrom, every, durationRight, entryRight, isZero, matrixRight, companionsRight, lastRight, resourceRight, resourceBlank, transportRight, valid}
+use Rattle.board.specs.Valid.{durationRight, entryRight, isZero, matrixRight, companionsRight, lastRight, resourceRight, resourceBlank, transportRight, valid}
 use Rattle.board.specs.declared.Board.{Board}
 use Rattle.board.specs.declared.Resource.{Resource}
 use Rattle.board.specs.declared.TransitionMatrix.{TransitionMatrix}
 use Rattle.resource_numbers.proofs.Standing.{on-small}
-use Rattle.board.proofs.Every.{every-at, every-all}
+use Rattle.calendar.specs.Every.{every, everyFrom, every-in, from-at, from-all}
 use Rattle.board.proofs.Facts.{rules, ruled}
 use Rattle.board.proofs.Meaning.{resource-rules}
 use Rattle.entering.proofs.Replying.{add-taken}
@@ -70,15 +69,15 @@ of-right m h = go (m .present) refl
     go true e = (h, e)
     go false e = (new-right (pos 0) (pos 0) refl refl, refl)
 
-set-every : (xs : List ℤ) (k n : ℕ) (z : ℤ) → every (λ i. entryRight (getD xs i (pos 0))) n ≡ true → entryRight z ≡ true
-    → every (λ i. entryRight (getD (set xs k z) i (pos 0))) n ≡ true
+set-every : (xs : List ℤ) (k n : ℕ) (z : ℤ) → everyFrom (λ i. entryRight (getD xs i (pos 0))) 0 n ≡ true → entryRight z ≡ true
+    → everyFrom (λ i. entryRight (getD (set xs k z) i (pos 0))) 0 n ≡ true
 set-every xs k n z h e =
     ⊎-elim
     (λ (l : k < length xs).
-    every-all _ n (λ j m.
+    from-all _ 0 n (λ j o m.
     ⊎-elim
     (λ (q : k ≡ j). rw (← q) (ap entryRight (getD-set-same xs k z (pos 0) l) ∙ e))
-    (λ (q : j ≡ k → ⊥). ap entryRight (getD-set-other xs k j z (pos 0) q) ∙ every-at (λ i. entryRight (getD xs i (pos 0))) n h j m)
+    (λ (q : j ≡ k → ⊥). ap entryRight (getD-set-other xs k j z (pos 0) q) ∙ from-at (λ i. entryRight (getD xs i (pos 0))) 0 n h j (omega arith) (omega arith))
     (same-or-not k j)))
     (λ (l : length xs ≤ k). rw (set-out xs k z l) h)
     (lt-or-ge k (length xs))
@@ -86,8 +85,8 @@ set-every xs k n z h e =
 record Parts (m : TransitionMatrix) : Type 0 where
   first : durationRight (m .default) ≡ true
   second : durationRight (m .initial) ≡ true
-  pairs : every (λ i. entryRight (getD (m .transitions) i (pos 0))) 256 ≡ true
-  firsts : every (λ i. entryRight (getD (m .initials) i (pos 0))) 16 ≡ true
+  pairs : everyFrom (λ i. entryRight (getD (m .transitions) i (pos 0))) 0 256 ≡ true
+  firsts : everyFrom (λ i. entryRight (getD (m .initials) i (pos 0))) 0 16 ≡ true
 
 parts : (m : TransitionMatrix) → m .present ≡ true → matrixRight m ≡ true → Parts m
 unfolding matrixRight
@@ -95,7 +94,7 @@ parts m p h =
     let g = rw p at h in
     let h1 = and-split (durationRight (m .default)) _ g in
     let h2 = and-split (durationRight (m .initial)) _ (h1 .1) in
-    let h3 = and-split (every (λ i. entryRight (getD (m .transitions) i (pos 0))) 256) (every (λ i. entryRight (getD (m .initials) i (pos 0))) 16) (h2 .1) in
+    let h3 = and-split (everyFrom (λ i. entryRight (getD (m .transitions) i (pos 0))) 0 256) (everyFrom (λ i. entryRight (getD (m .initials) i (pos 0))) 0 16) (h2 .1) in
     record { first = h1 .0; second = h2 .0; pairs = h3 .0; firsts = h3 .1 }
 
 transition-right : (m : TransitionMatrix) (last this : ℕ) (ms : ℤ) → m .present ≡ true → matrixRight m ≡ true → entryRight ms ≡ true → matrixRight (withTransition last this ms m) ≡ true
@@ -161,25 +160,22 @@ grown b i n h = go (lookupTo b i n) refl h
     go nothing e q = absurd (true≢false (sym q))
     go (at k) e q = rw (lookup-more b i n k e) refl
 
-below : (j n : ℕ) → j < n + 1 → (j ≡ n → ⊥) → j < n
-below j n l q = ⊎-elim (λ (e : j ≡ n). absurd (q e)) (λ (m : j < n). m) (eq-or-lt-of-le (omega arith))
-
 -- a new resource, behind the others
-companions-right : (companions : List ℕ) → length companions ≤ 4 → every (λ i. leb (getD companions i 0) 15) (length companions) ≡ true
+companions-right : (companions : List ℕ) → length companions ≤ 4 → every (λ companion. leb companion 15) companions ≡ true
     → companionsRight (companionCells companions) (length companions) ≡ true
 unfolding companionsRight
 companions-right companions l h =
     and-join _ _ (le-leb (length companions) 4 l)
-    (every-all _ 4 (λ j m.
+    (from-all _ 0 4 (λ j z m.
     ⊎-elim
     (λ (k : j < length companions).
     rw (lt-ltb j (length companions) k, List·getD-append companions (replicate (4 - length companions) 0) 0 j k)
-    (every-at (λ i. leb (getD companions i 0) 15) (length companions) h j k))
-    (λ (k : length companions ≤ j). rw (le-ltb j (length companions) k) (past companions j k m))
+    (every-in (λ companion. leb companion 15) companions j 0 k h))
+    (λ (k : length companions ≤ j). rw (le-ltb j (length companions) k) (past companions j k (omega arith)))
     (lt-or-ge j (length companions))))
 
 new-resource : (number kind skills : ℕ) (companions : List ℕ) (t : ResourceTimeline) → number ≤ 15 → length companions ≤ 4
-    → every (λ i. leb (getD companions i 0) 15) (length companions) ≡ true → timeline.valid t ≡ true → resourceRight (newResource number kind skills companions t) ≡ true
+    → every (λ companion. leb companion 15) companions ≡ true → timeline.valid t ≡ true → resourceRight (newResource number kind skills companions t) ≡ true
 unfolding resourceRight matrixRight everyFrom isZero lastRight
 new-resource number kind skills companions t l m h w = rw (le-leb number 15 l, companions-right companions m h, w) refl
 
@@ -212,12 +208,12 @@ module _ (b : Board) (r : Resource) (long : length (b .resources) ≡ 16) (v : v
         right = λ j m.
             ⊎-elim
             (λ (q : b .len ≡ j). rw (← q) (ap resourceRight last-one ∙ h))
-            (λ (q : j ≡ b .len → ⊥). ap resourceRight (others j q) ∙ u .right j (below j (b .len) m q))
+            (λ (q : j ≡ b .len → ⊥). ap resourceRight (others j q) ∙ u .right j (omega (arith, q)))
             (same-or-not (b .len) j);
         new = λ j m.
             ⊎-elim
             (λ (q : b .len ≡ j). rw (← q) (ap isAt (ap (λ (n : ℕ). lookupTo (withNew b r) (b .len) n) (ap (λ (x : Resource). x .number) last-one) ∙ seen (b .len) (r .number) (omega arith)) ∙ new))
-            (λ (q : j ≡ b .len → ⊥). ap isAt (ap (λ (n : ℕ). lookupTo (withNew b r) j n) (ap (λ (x : Resource). x .number) (others j q)) ∙ seen j (numberAt b j) (omega (arith, below j (b .len) m q))) ∙ u .new j (below j (b .len) m q))
+            (λ (q : j ≡ b .len → ⊥). ap isAt (ap (λ (n : ℕ). lookupTo (withNew b r) j n) (ap (λ (x : Resource). x .number) (others j q)) ∙ seen j (numberAt b j) (omega (arith, q))) ∙ u .new j (omega (arith, q)))
             (same-or-not (b .len) j);
         blank = λ j m w. ap resourceBlank (others j (λ q. omega (arith, q))) ∙ u .blank j (omega arith) w;
         transport = λ k m. wider k (u .transport k m);

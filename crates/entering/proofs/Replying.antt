@@ -6,10 +6,11 @@ use mathlib.Core.Path.{_≡_, refl}
 use Prim.Native.Nat.{ℕ, _≤_, _<_}
 use native.Mathlib.Omega.{arith}
 use lib.Dec.{leb, ltb}
-use lib.ListN.{length, getD}
+use lib.ListN.{length}
+use Rattle.calendar.specs.Every.{every}
 use Rattle.board.specs.Enter.{addRefusal}
 use Rattle.board.specs.Resources.{onBoard}
-use Rattle.board.specs.Valid.{every, valid}
+use Rattle.board.specs.Valid.{valid}
 use Rattle.board.specs.declared.Board.{Board}
 use Rattle.entering.proofs.Counting.{place-left}
 use Rattle.timeline.specs.declared.ResourceTimeline.{ResourceTimeline}
@@ -18,7 +19,7 @@ use Rattle.timeline.specs.Valid as timeline
 -- a new resource
 module _ (b : Board) (number : ℕ) (companions : List ℕ) (t : ResourceTimeline) where
   abbrev small : Bool
-  small = every (λ i. leb (getD companions i 0) 15) (length companions)
+  small = every (λ companion. leb companion 15) companions
 
   pub add-15 : valid b ≡ false → 15 ≡ addRefusal b number companions t
   unfolding addRefusal

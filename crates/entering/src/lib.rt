@@ -12,14 +12,14 @@ use timeline::ResourceTimeline;
 pub use transports::set_transport;
 ghost use mathlib.Core.Path.{_≡_};
 ghost use Prim.Native.Nat.{_≤_};
-ghost use lib.ListN.{length, getD};
+ghost use lib.ListN.{length};
 ghost use lib.Dec.{leb};
-ghost use Rattle.board.specs.Valid.{every};
+ghost use Rattle.calendar.specs.Every.{every};
 ghost use Rattle.board.specs.Enter.{companionCells, addRefusal, addResourceReply};
 
 // Every companion's number is at most 15, however many there are.
 fn numbers_right(companions: &[u8]) -> bool
-    ensures { λ r. ⌜ r ≡ every (λ i. leb (getD (now (companions .entry)) i 0) 15) (length (now (companions .entry))) ⌝ }
+    ensures { λ r. ⌜ r ≡ every (λ companion. leb companion 15) (now (companions .entry)) ⌝ }
 {
     let n = companions.len();
     let mut i: usize = 0;

@@ -5,7 +5,8 @@ use mathlib.Core.List.{[], _∷_, _++_}
 use Prim.Native.Nat.{ℕ, _^_, _+_}
 use lib.ListN.{replicate}
 use Rattle.calendar.specs.declared.Calendar.{Calendar}
-use Rattle.calendar.specs.Valid.{cellRight, cellsRight, spansRight, valid}
+use Rattle.calendar.specs.Every.{everyFrom}
+use Rattle.calendar.specs.Valid.{cellRight, spansRight, valid}
 use Rattle.calendar.specs.Add.{addRefusal, empty, withSpan, added, addWindow, addBlock}
 use Rattle.timeline.specs.Bookings.{bookingsTo, total}
 use Rattle.timeline.specs.Valid as timelines
@@ -67,7 +68,7 @@ pub runs :
     ≡ reply 0 empty ∷ reply 0 touching ∷ reply 0 blocked ∷ reply 1 empty ∷ reply 2 empty ∷ reply 0 full ∷ reply 4 crowded ∷ reply 2 crowded
     ∷ reply 0 (record { windows = crowded .windows; blocks = record { starts = 5 ∷ replicate 31 0; ends = 9 ∷ replicate 31 0; len = 1 } })
     ∷ reply 15 spoilt ∷ reply 15 spoilt ∷ reply 4 empty ∷ []
-unfolding cellRight cellsRight spansRight valid addRefusal empty withSpan added addWindow addBlock addOne judged addRun
+unfolding cellRight everyFrom spansRight valid addRefusal empty withSpan added addWindow addBlock addOne judged addRun
 runs = refl
 
 -- On a diary without bookings: two windows · the second reversed · a spoilt calendar
@@ -77,5 +78,5 @@ pub timeline-runs :
     ∷ addTimelineRun (diary 1 spoilt []) false (span 0 10 ∷ [])
     ∷ [])
     ≡ record { refusal = 0; timeline = diary 1 touching [] } ∷ record { refusal = 2; timeline = diary 1 empty [] } ∷ record { refusal = 15; timeline = diary 1 spoilt [] } ∷ []
-unfolding cellRight cellsRight spansRight valid addRefusal empty withSpan added addWindow addBlock addOne judged addRun bookingsTo total timelines.cellEmpty timelines.filledFrom timelines.emptyFrom timelines.valid latestEnds diary withCalendar calendarReply addTimelineRun
+unfolding cellRight everyFrom spansRight valid addRefusal empty withSpan added addWindow addBlock addOne judged addRun bookingsTo total timelines.cellEmpty timelines.valid latestEnds diary withCalendar calendarReply addTimelineRun
 timeline-runs = refl

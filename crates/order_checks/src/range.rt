@@ -10,7 +10,8 @@ use calendar::limits::MOST_UNITS;
 ghost use mathlib.Core.Path.{_≡_};
 ghost use Prim.Native.Nat.{_≤_};
 ghost use lib.ListN.{take};
-ghost use Rattle.activity.specs.Check.{every, releaseRight, short, timingShort, quantitiesRight, usageRight};
+ghost use Rattle.calendar.specs.Every.{every};
+ghost use Rattle.activity.specs.Check.{releaseRight, short, timingShort, quantitiesRight, usageRight};
 
 // The release, where there is one, is from 0 to 2^42.
 pub fn is_instant(release: Release) -> bool

@@ -3,7 +3,8 @@ use activity::ResourceTiming;
 use activity::Timed;
 use speeds::is_speed;
 ghost use mathlib.Core.Path.{_≡_};
-ghost use Rattle.activity.specs.Check.{every, timingSpeed};
+ghost use Rattle.calendar.specs.Every.{every};
+ghost use Rattle.activity.specs.Check.{timingSpeed};
 
 // The speed, where the timing has one, is taken.
 fn timing_speed(timing: ResourceTiming) -> bool

@@ -1,15 +1,13 @@
 -- The first cells of an array as a list; an array filled cell by cell, passed on.
-use mathlib.Core.Path.{_≡_, refl, sym, ap, _∙_}
-use mathlib.Core.Bool.{Bool, true, false, _&&_}
+use mathlib.Core.Path.{_≡_, refl}
 use mathlib.Core.List.{List, [], _∷_, _++_, map, append-assoc}
-use Prim.Native.Nat.{ℕ, zero, suc, _+_, _-_, _≤_, _<_}
+use Prim.Native.Nat.{ℕ, zero, suc, _+_, _≤_, _<_}
 use native.Mathlib.Omega.{arith}
-use lib.ListN.{length, getD, set, take, drop}
-use lib.Seq.{take-suc, take-suc-set, take-add}
-use Rattle.calendar.specs.Basics.{and-false, and-assoc}
-pub use Rattle.calendar.specs.Basics.{filled-next}
-use Rattle.activity.specs.Check.{every}
-use Rattle.scheduler.specs.Lists.{Each, each-end, each-on}
+use lib.ListN.{length, getD, set, take}
+use lib.Seq.{take-suc-set}
+pub use Rattle.calendar.specs.Basics.{filled-next, take-next, take-split}
+pub use Rattle.calendar.specs.Every.{every-append, every-next, every-off}
+use Rattle.scheduler.specs.Lists.{Each, each-end, each-on, Pairs, pairs-end, pairs-on}
 
 module _ {A B : Type 0} (f : A → B) where
   -- cell by cell the image of another array
@@ -18,17 +16,6 @@ module _ {A B : Type 0} (f : A → B) where
   cells-map d e (suc n) [] ys l m h = absurd (omega arith)
   cells-map d e (suc n) (x ∷ xs) [] l m h = absurd (omega arith)
   cells-map d e (suc n) (x ∷ xs) (y ∷ ys) l m h = rw (h 0 (omega arith), cells-map d e n xs ys (omega arith) (omega arith) (λ k i. h (suc k) (omega arith))) refl
-
-pub take-next : {A : Type 0} (xs : List A) (i : ℕ) (d : A) → i < length xs → take (i + 1) xs ≡ take i xs ++ (getD xs i d ∷ [])
-take-next xs i d l =
-    let z : i + 1 ≡ suc i = omega arith in
-    rw z (take-suc xs i d l)
-
--- the first i + 1 of n, and the rest
-pub take-split : {A : Type 0} (xs : List A) (i n : ℕ) → i < n → take n xs ≡ take (i + 1) xs ++ take (n - (i + 1)) (drop (i + 1) xs)
-take-split xs i n l =
-    let z : i + 1 + (n - (i + 1)) ≡ n = omega arith in
-    rw z at (take-add (i + 1) (n - (i + 1)) xs)
 
 -- one more behind those that stand there
 pub pushed-next : {A : Type 0} (xs ms base : List A) (n i : ℕ) (d : A) → n + i < length xs → i < length ms → take (n + i) xs ≡ base ++ take i ms → take (n + (i + 1)) (set xs (n + i) (getD ms i d)) ≡ base ++ take (i + 1) ms
@@ -48,25 +35,10 @@ module _ {A : Type 0} (P : A → Type 0) (d : A) where
   each-cells (suc n) [] h = each-end
   each-cells (suc n) (x ∷ xs) h = each-on (h 0 (omega arith) (omega arith)) (each-cells n xs (λ k l m. h (suc k) (omega arith) (omega arith)))
 
-module _ {A : Type 0} (P : A → Bool) where
-  pub every-append : (xs ys : List A) → every P (xs ++ ys) ≡ every P xs && every P ys
-  unfolding every
-  every-append [] ys = refl
-  every-append (x ∷ xs) ys = ap (λ (p : Bool). P x && p) (every-append xs ys) ∙ sym (and-assoc (P x) (every P xs) (every P ys))
-
-  module _ (d : A) (xs : List A) where
-    -- one that passes
-    pub every-next : (i : ℕ) → i < length xs → every P (take i xs) ≡ true → P (getD xs i d) ≡ true → every P (take (i + 1) xs) ≡ true
-    unfolding every
-    every-next i l e p = ap (every P) (take-next xs i d l) ∙ every-append (take i xs) (getD xs i d ∷ []) ∙ rw (e, p) refl
-
-    every-fails : (i : ℕ) → i < length xs → P (getD xs i d) ≡ false → every P (take (i + 1) xs) ≡ false
-    unfolding every
-    every-fails i l p = ap (every P) (take-next xs i d l) ∙ every-append (take i xs) (getD xs i d ∷ []) ∙ rw p (and-false (every P (take i xs)))
-
-    -- one that fails makes all fail
-    pub every-off : (i n : ℕ) → i < n → n ≤ length xs → P (getD xs i d) ≡ false → every P (take n xs) ≡ false
-    every-off i n l m p =
-        ap (every P) (take-split xs i n l)
-        ∙ every-append (take (i + 1) xs) (take (n - (i + 1)) (drop (i + 1) xs))
-        ∙ rw (every-fails i (omega arith) p) refl
+-- and of two arrays cell by cell
+pub pairs-cells : {A : Type 0} (R : A → A → Type 0) (d : A) (n : ℕ) (xs ys : List A) → n ≤ length xs → n ≤ length ys → ((i : ℕ) → i < n → R (getD xs i d) (getD ys i d))
+    → Pairs R (take n xs) (take n ys)
+pairs-cells R d zero xs ys l m f = pairs-end
+pairs-cells R d (suc n) [] ys l m f = absurd (omega arith)
+pairs-cells R d (suc n) (x ∷ xs) [] l m f = absurd (omega arith)
+pairs-cells R d (suc n) (x ∷ xs) (y ∷ ys) l m f = pairs-on (f 0 (omega arith)) (pairs-cells R d n xs ys (omega arith) (omega arith) (λ i h. f (suc i) (omega arith)))

@@ -16,7 +16,8 @@ use Rattle.timeline.proofs.Meaning.{Earliest}
 use Rattle.activity.specs.declared.ResourceRequirement.{ResourceRequirement}
 use Rattle.activity.specs.declared.Activity.{Activity}
 use Rattle.activity.specs.Serving.{serves}
-use Rattle.activity.specs.Check.{every, requirementsOf}
+use Rattle.calendar.specs.Every.{every}
+use Rattle.activity.specs.Check.{requirementsOf}
 use Rattle.board.specs.declared.Resource.{Resource}
 use Rattle.board.specs.declared.Board.{Board}
 use Rattle.board.specs.Resources.{resourcesOf, onBoard}
@@ -28,7 +29,7 @@ use Rattle.scheduler.specs.Lists.{Each, each-end, each-on, each-append}
 use Rattle.scheduler.specs.Together.{all-back}
 use Rattle.scheduler.specs.Ranking.{each-sort}
 use Rattle.scheduler.specs.Answering.{Answers, Kept, served, alone-answers, told}
-use Rattle.scheduler.specs.Rounds.{not-few, hold-parts, each-hold, greatest-le, greatest-each, greatest-ge, round-at, round-upto, round-from, round-stays, round-some}
+use Rattle.scheduler.specs.Rounds.{heldOf, not-few, hold-parts, each-hold, greatest-le, greatest-each, greatest-ge, round-at, round-upto, round-from, round-stays, round-some}
 use Rattle.scheduler.specs.Events.{eventsOf, calm-else, least-listed, above, above-falls}
 use Rattle.scheduler.specs.Tests.{or-left, or-right}
 
@@ -45,10 +46,6 @@ greatest-is P (h ∷ k ∷ hs) (each-on p a) l = go (greatestStart (k ∷ hs)) (
         (λ (m : h .start < g). let e : max (h .start) g ≡ g = omega arith in rw e r)
         (λ (m : g ≤ h .start). let e : max (h .start) g ≡ h .start = omega arith in rw e p)
         (lt-or-ge (h .start) g)
-
-heldOf : Round → List Held
-heldOf tooFew = []
-heldOf (holds hs) = hs
 
 -- what a choice is, for a test of an instant and what is held there: the least instant, or that there is none
 abbrev pub Chooses : (ℕ → Bool) → (ℕ → List Held) → ℕ → Choice → Type 0

@@ -10,7 +10,7 @@ use lib.Dec.{leb, ltb, eqb}
 use lib.Seq.{getD-set-same, getD-set-other}
 use borrow.Author.Tests.{leb-true, ltb-false, leb-false, le-leb, eqb-true, eqb-false, eq-eqb, not-true, not-false}
 use Rattle.calendar.specs.Basics.{and-split, and-join, lt-or-ge, same-or-not, unrefused}
-use Rattle.calendar.specs.Search.{Found, nothing, at}
+use Rattle.calendar.specs.Search.{Found, nothing, at, when}
 use Rattle.timeline.specs.declared.ResourceTimeline.{ResourceTimeline}
 use Rattle.timeline.specs.Bookings.{Booking, bookings}
 use Rattle.timeline.specs.Valid as timeline
@@ -19,7 +19,7 @@ use Rattle.timeline.proofs.Rules as timeline-rules
 use Rattle.timeline.proofs.Rows.{count}
 use Rattle.timeline.proofs.Keeping.{booked-keeps, length-inserted, bookings-diary}
 use Rattle.timeline.proofs.Meaning.{times}
-use Rattle.activity.specs.Check.{every}
+use Rattle.calendar.specs.Every.{every}
 use Rattle.board.specs.declared.LastCategory.the-variants.{Category}
 use Rattle.board.specs.declared.Resource.{Resource}
 use Rattle.board.specs.declared.Board.{Board}
@@ -219,10 +219,6 @@ module _ (start end category : ℕ) where
       last-kept ls b′ i (rw (step-long start end category b l (lookup b (l .number))) h) (rw (← f .number-same, ← f .matrix-same) (w .1))
       ∙ step-last b l i h (not-true (takesCategory (resourceAt b i) l) (w .0))
 
-placeIn : Found → ℕ
-placeIn nothing = 0
-placeIn (at i) = i
-
 -- a booking makes a diary longer by one
 longer : (t : ResourceTimeline) (start end u : ℕ) → withBooking t start end u .len ≡ t .len + 1
 unfolding withBooking diary
@@ -282,7 +278,7 @@ module _ (start end category : ℕ) (w : Bookable start end category) where
 
     -- the diary named has one booking more, the others are as they were
     diary-after : (n : ℕ) → onBoard b n ≡ true → diaryOf after n .len ≡ diaryOf b n .len + cond (eqb (l .number) n) 1 0
-    unfolding resourceIn placeIn booked
+    unfolding resourceIn when booked
     diary-after n o =
         let q = on-place b v n o in
         let e : lookup after n ≡ at (q .0) = lookup-after n ∙ q .1 in
@@ -291,7 +287,7 @@ module _ (start end category : ℕ) (w : Bookable start end category) where
         go : (j : ℕ) → lookup b n ≡ at j → j < b .len → (k : Bool) → eqb (l .number) n ≡ k → resourceAt after j .timeline .len ≡ resourceAt b j .timeline .len + cond k 1 0
         go j e m true h =
             let z : l .number ≡ n = eqb-true (l .number) n h in
-            let y : place .0 ≡ j = ap placeIn (sym (place .1) ∙ ap (lookup b) z ∙ e) in
+            let y : place .0 ≡ j = ap when (sym (place .1) ∙ ap (lookup b) z ∙ e) in
             rw (← y) (ap (λ (x : Resource). x .timeline .len) here ∙ longer (resourceAt b (place .0) .timeline) start end (l .units))
         go j e m false h =
             let ne = eqb-false (l .number) n h in

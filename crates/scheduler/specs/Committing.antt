@@ -8,7 +8,7 @@ use Rattle.calendar.specs.Limits.{lastInstant, mostUnits, mostBookings}
 use Rattle.timeline.specs.declared.ResourceTimeline.{ResourceTimeline}
 use Rattle.timeline.specs.Bookings.{bookings}
 use Rattle.timeline.specs.Diary.{insertBooking, diary}
-use Rattle.activity.specs.Check.{every}
+use Rattle.calendar.specs.Every.{every}
 use Rattle.board.specs.declared.LastCategory.{LastCategory}
 use Rattle.board.specs.declared.LastCategory.the-variants.{Category}
 use Rattle.board.specs.declared.Resource.{Resource}

@@ -9,7 +9,8 @@ use lib.ListN.{length, take, drop, length-map}
 use lib.Seq.{take-at}
 use lib.Dec.{ltb}
 use Rattle.calendar.specs.Basics.{not-both, lt-or-ge, unrefused}
-use Rattle.calendar.specs.Search.{Found, nothing, at}
+use Rattle.calendar.specs.Search.{Found, nothing, at, when}
+use Rattle.calendar.specs.Meaning.{not-at}
 use Rattle.calendar.specs.Valid as calendar
 use Rattle.timeline.proofs.Meaning.{Earliest}
 use Rattle.activity.specs.declared.ResourceRequirement.{ResourceRequirement}
@@ -43,19 +44,6 @@ fitted-instant b a span t es = go (fitting (a .resumable) (sharesOf b es) (a .ca
     go : (f : Found) → choosingInstant (started (a .resumable) (sharesOf b es) a span t es f) ≡ at t
     go nothing = refl
     go (at s) = end s (endOf (a .resumable) (sharesOf b es) (a .calendar) span s)
-
--- an instant as a number
-when : Found → ℕ
-when nothing = 0
-when (at t) = t
-
-isSome : Found → Bool
-isSome nothing = false
-isSome (at t) = true
-
-some-at : {X : Type 0} (t : ℕ) → nothing ≡ at t → X
-unfolding isSome
-some-at t e = absurd (not-both true refl (sym (ap isSome e)))
 
 -- what the two boards choose
 module _ (b c : Board) (k : Alike b c) (a : Activity) (ready : ℕ) (q : ResourceRequirement) (qs : List ResourceRequirement) (asks : requirementsOf a ≡ q ∷ qs) (some : 1 ≤ q .quantity) where
@@ -180,7 +168,7 @@ module _ (b c : Board) (k : Alike b c) (a : Activity) (ready from : ℕ) (lawful
   placing-later u h = go (requirementsOf a) refl h
     where
       held : (q : ResourceRequirement) (qs : List ResourceRequirement) → requirementsOf a ≡ q ∷ qs → (f : Choice) → choosing c a ready ≡ f → choosingInstant (fitChosen c a f) ≡ at u → (t : ℕ) × (choosingInstant (fitChosen b a (choosing b a ready)) ≡ at t) × (t ≤ u)
-      held q qs asks noChoice f g = some-at u g
+      held q qs asks noChoice f g = absurd (not-at u g)
       held q qs asks (chosen v ks) f g =
           let i : v ≡ u = ap when (sym (fitted-instant c a (spanTogether a ks) v (entriesOf a ks)) ∙ g) in
           let w = chosen-later b c k a ready q qs asks (some-of-each a from q qs asks lawful) v ks f in
@@ -228,7 +216,7 @@ module _ (b c : Board) (k : Alike b c) (a : Activity) (ready : ℕ) (slate other
     where
       go : (n : ℕ) → placeRefusal c a ready (length other) ≡ n → choosingInstant (refusedOr refused n (placing c a (readyOf (a .release) ready))) ≡ at u → (t : ℕ) × (choosingInstant (refusedOr refused n (placing b a (readyOf (a .release) ready))) ≡ at t) × (t ≤ u)
       go zero f g = placing-later b c k a (readyOf (a .release) ready) ready (lawful f) u g
-      go (suc n) f g = some-at u g
+      go (suc n) f g = absurd (not-at u g)
 
   refusal-is : (d : Board) (n : ℕ) → refusalOf (refusedOr refused n (placing d a (readyOf (a .release) ready))) ≡ refusedOr at n nothing
   unfolding refusedOr refusalOf

@@ -17,7 +17,8 @@ use Rattle.calendar.specs.Meaning.{fits-is, least-is}
 use Rattle.timeline.proofs.Meaning.{Earliest, straight}
 use Rattle.activity.specs.declared.ResourceRequirement.{ResourceRequirement}
 use Rattle.activity.specs.declared.Activity.{Activity}
-use Rattle.activity.specs.Check.{every, requirementsOf, quantity, quantitiesRight, usageRight, timingSpeed, timesRight, activityRefusal}
+use Rattle.calendar.specs.Every.{every}
+use Rattle.activity.specs.Check.{requirementsOf, quantity, quantitiesRight, usageRight, timingSpeed, timesRight, activityRefusal}
 use Rattle.board.specs.declared.Board.{Board}
 use Rattle.board.specs.Valid as board
 use Rattle.scheduler.specs.Alone.{Share, spanOf, allStart}

@@ -23,7 +23,8 @@ isHolds : Round → Bool
 isHolds tooFew = false
 isHolds (holds hs) = true
 
-heldOf : Round → List Held
+-- those that a round holds
+unfoldable pub heldOf : Round → List Held
 heldOf tooFew = []
 heldOf (holds hs) = hs
 

@@ -16,7 +16,7 @@ use Rattle.timeline.specs.Valid as timeline
 use Rattle.timeline.proofs.Rules as timeline-rules
 use Rattle.activity.specs.declared.ResourceRequirement.{ResourceRequirement}
 use Rattle.activity.specs.declared.Activity.{Activity}
-use Rattle.activity.specs.Check.{every}
+use Rattle.calendar.specs.Every.{every}
 use Rattle.board.specs.declared.Resource.{Resource}
 use Rattle.board.specs.declared.Board.{Board}
 use Rattle.board.specs.Resources.{noResource, resourcesOf, resourceAt, lookup, isAt, onBoard}
@@ -84,6 +84,11 @@ unfolding eventsOn
 on-length [] each-end = omega arith
 on-length (r ∷ rs) (each-on w ws) = omega (arith, length-append (events (r .timeline)) (eventsOn rs), events-length (r .timeline) w, on-length rs ws)
 
+-- the diary of a number, by its place
+pub diary-at : (b : Board) (n i : ℕ) → lookup b n ≡ at i → diaryOf b n ≡ resourceAt b i .timeline
+unfolding resourceIn
+diary-at b n i e = ap (λ (f : Found). resourceIn b f .timeline) e
+
 module _ (b : Board) (v : board.valid b ≡ true) where
   pub diary-valid : (i : ℕ) → i < b .len → timeline.valid (resourceAt b i .timeline) ≡ true
   diary-valid i l = resource-of b v i l .timeline
@@ -108,19 +113,15 @@ module _ (b : Board) (v : board.valid b ≡ true) where
       go nothing h k = absurd (not-both true refl (sym k))
       go (at i) h k = (i, h, lookup-means b n i h .0)
 
-  pub diary-at : (n i : ℕ) → lookup b n ≡ at i → diaryOf b n ≡ resourceAt b i .timeline
-  unfolding resourceIn
-  diary-at n i e = ap (λ (f : Found). resourceIn b f .timeline) e
-
   pub on-valid : (n : ℕ) → onBoard b n ≡ true → timeline.valid (diaryOf b n) ≡ true
   on-valid n e =
       let w = on-place n e in
-      ap timeline.valid (diary-at n (w .0) (w .1)) ∙ diary-valid (w .0) (w .2)
+      ap timeline.valid (diary-at b n (w .0) (w .1)) ∙ diary-valid (w .0) (w .2)
 
   pub on-event : (n x : ℕ) → onBoard b n ≡ true → among x (events (diaryOf b n)) ≡ true → among x (eventsOn (resourcesOf b)) ≡ true
   on-event n x e h =
       let w = on-place n e in
-      event-on x (b .len) (b .resources) (w .0) (w .2) (ap (λ (t : ResourceTimeline). among x (events t)) (sym (diary-at n (w .0) (w .1))) ∙ h)
+      event-on x (b .len) (b .resources) (w .0) (w .2) (ap (λ (t : ResourceTimeline). among x (events t)) (sym (diary-at b n (w .0) (w .1))) ∙ h)
 
   companions-sound : (cs : List ℕ) → every (onBoard b) cs ≡ true → Sound (map (oneUnit b) cs)
   unfolding every

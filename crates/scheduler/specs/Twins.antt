@@ -2,15 +2,15 @@
 use mathlib.Core.Path.{_≡_, refl, sym, ap, _∙_, subst, fun-ext}
 use mathlib.Core.Bool.{Bool, true, false, _&&_}
 use mathlib.Core.List.{List, [], _∷_, map}
-use Prim.Native.Nat.{ℕ, zero, suc, _+_, _≤_, _<_}
+use Prim.Native.Nat.{ℕ, _+_}
 use native.Mathlib.Omega.{arith}
-use lib.ListN.{getD, length, take}
+use lib.ListN.{take}
 use lib.Dec.{leb}
 use Rattle.timeline.specs.declared.ResourceTimeline.{ResourceTimeline}
 use Rattle.activity.specs.declared.ResourceRequirement.{ResourceRequirement}
 use Rattle.activity.specs.declared.Activity.{Activity}
 use Rattle.activity.specs.Serving.{serves}
-use Rattle.activity.specs.Check.{every}
+use Rattle.calendar.specs.Every.{every}
 use Rattle.board.specs.declared.Resource.{Resource}
 use Rattle.board.specs.declared.Board.{Board}
 use Rattle.board.specs.Resources.{noResource, resourcesOf, numberAt, onBoard}
@@ -19,16 +19,11 @@ use Rattle.board.specs.Transport.{greatest}
 use Rattle.scheduler.specs.Alone.{allStart, diaryOf, companionsOf, oneUnit, withCompanions, durationAlone, spanAlone, arrival}
 use Rattle.scheduler.specs.Plain.{startsThere}
 use Rattle.scheduler.specs.Lists.{Each, each-end, each-on, Pairs, pairs-end, pairs-on, pairs-map}
+use Rattle.scheduler.specs.Arrays.{pairs-cells}
 use Rattle.scheduler.specs.Alike.{AlikeDiary, AlikeResource, Alike, NoExtra}
 use Rattle.scheduler.specs.Ruled.{diary-at, all-there}
 use Rattle.board.proofs.Meaning.{lookup-is}
 use Rattle.scheduler.specs.Lending.{AlikeShare, all-less, on-same, diaries-alike, diaries-same}
-
-pub pairs-index : (R : Resource → Resource → Type 0) (n : ℕ) (xs ys : List Resource) → n ≤ length xs → n ≤ length ys → ((i : ℕ) → i < n → R (getD xs i noResource) (getD ys i noResource)) → Pairs R (take n xs) (take n ys)
-pairs-index R zero xs ys l m f = pairs-end
-pairs-index R (suc n) [] ys l m f = absurd (omega arith)
-pairs-index R (suc n) (x ∷ xs) [] l m f = absurd (omega arith)
-pairs-index R (suc n) (x ∷ xs) (y ∷ ys) l m f = pairs-on (f 0 (omega arith)) (pairs-index R n xs ys (omega arith) (omega arith) (λ i h. f (suc i) (omega arith)))
 
 pass : (x y z p q : Bool) → (p ≡ true → q ≡ true) → x && (y && (z && p)) ≡ true → x && (y && (z && q)) ≡ true
 pass true true true p q f h = f h
@@ -46,11 +41,11 @@ module _ (b c : Board) (k : Alike b c) where
   pub twins : Pairs (Twin b c) (resourcesOf b) (resourcesOf c)
   twins =
       subst (λ (n : ℕ). Pairs (Twin b c) (resourcesOf b) (take n (c .resources))) (k .len-same)
-      (pairs-index (Twin b c) (b .len) (b .resources) (c .resources) (all-there b (k .first-valid)) (omega (arith, all-there c (k .second-valid), k .len-same)) (λ i l.
+      (pairs-cells (Twin b c) noResource (b .len) (b .resources) (c .resources) (all-there b (k .first-valid)) (omega (arith, all-there c (k .second-valid), k .len-same)) (λ i l.
       record {
         alike = k .resources-alike i l;
-        own-first = diary-at b (k .first-valid) (numberAt b i) i (lookup-is b (k .first-valid) i l);
-        own-second = diary-at c (k .second-valid) (numberAt c i) i (lookup-is c (k .second-valid) i (omega (arith, k .len-same)));
+        own-first = diary-at b (numberAt b i) i (lookup-is b (k .first-valid) i l);
+        own-second = diary-at c (numberAt c i) i (lookup-is c (k .second-valid) i (omega (arith, k .len-same)));
       }))
 
   -- no extra is on a resource or on one of its companions

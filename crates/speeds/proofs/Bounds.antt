@@ -1,7 +1,7 @@
 -- Where a rounded quotient and a rounded product lie: rounding keeps the order, and leaves whole numbers up to 2 ^ 53 and powers of two as they are.
 use mathlib.Core.Path.{_≡_, refl, sym, ap, _∙_, subst}
 use Prim.Native.Nat.{ℕ, zero, suc, _+_, _-_, _*_, _^_, _≤_, _<_}
-use native.Mathlib.Nat.{le-trans, le-of-eq, lt-of-lt-of-le, lt-irrefl, zero-lt-suc, mul-pos, mul-one, one-mul, zero-mul, mul-assoc, mul-comm, mul-left-comm, mul-right-comm, mul-mul-mul-comm, mul-le-mul-right, mul-le-mul-left, mul-le-mul, le-of-mul-le-mul-right, one-le-pow, pow-suc, pow-le-pow-right, lt-of-le-of-lt, le-of-mul-le-mul-left}
+use native.Mathlib.Nat.{le-of-lt, le-trans, le-of-eq, lt-of-lt-of-le, lt-irrefl, zero-lt-suc, mul-pos, mul-one, one-mul, zero-mul, mul-assoc, mul-comm, mul-left-comm, mul-right-comm, mul-mul-mul-comm, mul-le-mul-right, mul-le-mul-left, mul-le-mul, le-of-mul-le-mul-right, one-le-pow, pow-suc, pow-le-pow-right, lt-of-le-of-lt, le-of-mul-le-mul-left}
 use native.Mathlib.Omega.{arith}
 use mathlib.Core.Bool.{Bool, true, false, not, _&&_, _||_, cond, true≢false}
 use lib.IntN.{pos}
@@ -28,11 +28,8 @@ plain-of-value (fin false m e) a c v = tt
 le-of-test : (a b : ℕ) → T (ltb a b || (eqb a b && true)) → a ≤ b
 le-of-test a b h = go (ltb a b) (eqb a b) (ltb→lt a b) (eqb→eq a b) h
   where
-    weaken : (a b : ℕ) → a < b → a ≤ b
-    weaken a b h = omega arith
-
     go : (x y : Bool) → (T x → a < b) → (T y → a ≡ b) → T (x || (y && true)) → a ≤ b
-    go true y p q h = weaken a b (p tt)
+    go true y p q h = le-of-lt (p tt)
     go false true p q h = le-of-eq (q tt)
     go false false p q h = absurd h
 

@@ -1,7 +1,7 @@
 -- A value that a format holds is written in one way, so `round` leaves it as it is, and 1.0 times it is itself.
 use mathlib.Core.Path.{_≡_, refl, sym, ap, _∙_, subst}
 use Prim.Native.Nat.{ℕ, zero, suc, _+_, _-_, _*_, _%_, _^_, _≤_, _<_}
-use native.Mathlib.Nat.{le-of-eq, lt-of-lt-of-le, lt-of-not-le, lt-irrefl, le-of-suc-le-suc, zero-lt-suc, mul-pos, mul-one, one-mul, mul-assoc, mul-comm, mul-left-comm, mul-right-comm, mul-lt-mul-of-pos-right, eq-of-mul-eq-mul-right, lt-of-mul-lt-mul-right, pow-succ', pow-suc}
+use native.Mathlib.Nat.{suc-inj, le-of-eq, lt-of-lt-of-le, lt-of-not-le, lt-irrefl, le-of-suc-le-suc, zero-lt-suc, mul-pos, mul-one, one-mul, mul-assoc, mul-comm, mul-left-comm, mul-right-comm, mul-lt-mul-of-pos-right, eq-of-mul-eq-mul-right, lt-of-mul-lt-mul-right, pow-succ', pow-suc}
 use native.Mathlib.Omega.{arith}
 use mathlib.Core.Bool.{Bool, true, false, _&&_}
 use lib.IntN.{ℤ, pos, negsuc}
@@ -41,10 +41,7 @@ same-parts m n (negsuc a) (pos b) o p h =
     absurd (no-zero b a (sym (odd-pow m n 0 (b + suc a) o p (sym (mul-one (m * 1)) ∙ h ∙ mul-assoc n (2 ^ b) (2 ^ suc a) ∙ ap (λ (x : ℕ). n * x) (sym (pow-add 2 b (suc a)))) .1)))
 same-parts m n (negsuc a) (negsuc b) o p h =
     let r = odd-pow m n (suc b) (suc a) o p (ap (λ (x : ℕ). x * 2 ^ suc b) (sym (mul-one m)) ∙ h ∙ ap (λ (x : ℕ). x * 2 ^ suc a) (mul-one n)) in
-    (r .0, ap negsuc (suc-inj a b (sym (r .1))))
-  where
-    suc-inj : (a b : ℕ) → suc a ≡ suc b → a ≡ b
-    suc-inj a b h = omega arith
+    (r .0, ap negsuc (suc-inj (sym (r .1))))
 
 -- what `fits` says of a value above 0
 record Held (f : Format) (m : ℕ) (e : ℤ) : Type 0 where

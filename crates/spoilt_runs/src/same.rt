@@ -10,11 +10,11 @@ ghost use mathlib.Core.Path.{_≡_};
 ghost use mathlib.Core.Bool.{true};
 ghost use mathlib.Core.List.{[]};
 ghost use Prim.Native.Nat.{ℕ, _≤_, _<_};
-ghost use lib.ListN.{length, getD};
+ghost use lib.ListN.{getD};
 
 // All words of two runs, which have one length.
 fn same_words(a: &[u64], b: &[u64]) -> bool
-    ensures { λ r. ⌜ (r ≡ true → (k : ℕ) → k < length (now (a .entry)) → getD (now (a .entry)) k 0 ≡ getD (now (b .entry)) k 0) ⌝ }
+    ensures { λ r. ⌜ (r ≡ true → now (a .entry) ≡ now (b .entry)) ⌝ }
 {
     let n = a.len();
     if b.len() != n {
@@ -31,14 +31,14 @@ fn same_words(a: &[u64], b: &[u64]) -> bool
 }
 
 fn same_row(a: [u64; 4], b: [u64; 4]) -> bool
-    ensures { λ r. ⌜ (r ≡ true → (j : ℕ) → j < 4 → getD a j 0 ≡ getD b j 0) ⌝ }
+    ensures { λ r. ⌜ (r ≡ true → a ≡ b) ⌝ }
 {
     same_words(&a, &b)
 }
 
 // The rows from `from` on.
 pub fn same_rows(a: &[[u64; 4]; 32], b: &[[u64; 4]; 32], from: usize) -> bool
-    ensures { λ r. ⌜ (r ≡ true → (k j : ℕ) → from ≤ k → k < 32 → j < 4 → getD (getD (now (a .entry)) k []) j 0 ≡ getD (getD (now (b .entry)) k []) j 0) ⌝ }
+    ensures { λ r. ⌜ (r ≡ true → (k : ℕ) → from ≤ k → k < 32 → getD (now (a .entry)) k [] ≡ getD (now (b .entry)) k []) ⌝ }
 {
     let mut i = from;
     while i < 32 {
@@ -52,8 +52,15 @@ pub fn same_rows(a: &[[u64; 4]; 32], b: &[[u64; 4]; 32], from: usize) -> bool
     true
 }
 
-fn same_units(a: &[u32; 64], b: &[u32; 64]) -> bool
-    ensures { λ r. ⌜ (r ≡ true → (k : ℕ) → k < 64 → getD (now (a .entry)) k 0 ≡ getD (now (b .entry)) k 0) ⌝ }
+// One column of a diary.
+fn same_column(a: [u64; 64], b: [u64; 64]) -> bool
+    ensures { λ r. ⌜ (r ≡ true → a ≡ b) ⌝ }
+{
+    same_words(&a, &b)
+}
+
+fn same_units(a: [u32; 64], b: [u32; 64]) -> bool
+    ensures { λ r. ⌜ (r ≡ true → a ≡ b) ⌝ }
 {
     let mut i: usize = 0;
     while i < 64 {
@@ -65,8 +72,8 @@ fn same_units(a: &[u32; 64], b: &[u32; 64]) -> bool
     true
 }
 
-fn same_companions(a: &[u8; 4], b: &[u8; 4]) -> bool
-    ensures { λ r. ⌜ (r ≡ true → (k : ℕ) → k < 4 → getD (now (a .entry)) k 0 ≡ getD (now (b .entry)) k 0) ⌝ }
+fn same_companions(a: [u8; 4], b: [u8; 4]) -> bool
+    ensures { λ r. ⌜ (r ≡ true → a ≡ b) ⌝ }
 {
     let mut i: usize = 0;
     while i < 4 {
@@ -78,10 +85,19 @@ fn same_companions(a: &[u8; 4], b: &[u8; 4]) -> bool
     true
 }
 
-fn same_transitions(a: &[i64; 256], b: &[i64; 256]) -> bool {
+// All entries of two parts of a matrix.
+fn same_signed(a: &[i64], b: &[i64]) -> bool
+    ensures { λ r. ⌜ (r ≡ true → now (a .entry) ≡ now (b .entry)) ⌝ }
+{
+    let n = a.len();
+    if b.len() != n {
+        return false;
+    }
     let mut i: usize = 0;
-    while i < 256 {
-        if a[i] != b[i] {
+    while i < n {
+        let x = a[i];
+        let y = b[i];
+        if x != y {
             return false;
         }
         i += 1;
@@ -89,18 +105,9 @@ fn same_transitions(a: &[i64; 256], b: &[i64; 256]) -> bool {
     true
 }
 
-fn same_initials(a: &[i64; 16], b: &[i64; 16]) -> bool {
-    let mut i: usize = 0;
-    while i < 16 {
-        if a[i] != b[i] {
-            return false;
-        }
-        i += 1;
-    }
-    true
-}
-
-fn same_spans(a: TimeWindows, b: TimeWindows) -> bool {
+fn same_spans(a: TimeWindows, b: TimeWindows) -> bool
+    ensures { λ r. ⌜ (r ≡ true → a ≡ b) ⌝ }
+{
     if a.len != b.len {
         return false;
     }
@@ -114,40 +121,41 @@ fn same_spans(a: TimeWindows, b: TimeWindows) -> bool {
     same_words(&e, &f)
 }
 
-fn same_calendar(a: Calendar, b: Calendar) -> bool {
+fn same_calendar(a: Calendar, b: Calendar) -> bool
+    ensures { λ r. ⌜ (r ≡ true → a ≡ b) ⌝ }
+{
     if !same_spans(a.windows, b.windows) {
         return false;
     }
     same_spans(a.blocks, b.blocks)
 }
 
-fn same_bookings(a: ResourceTimeline, b: ResourceTimeline) -> bool {
+fn same_bookings(a: ResourceTimeline, b: ResourceTimeline) -> bool
+    ensures { λ r. ⌜ (r ≡ true → (a .starts ≡ b .starts) × (a .ends ≡ b .ends) × (a .latest ≡ b .latest) × (a .units ≡ b .units)) ⌝ }
+{
     let s = a.starts;
     let t = b.starts;
-    if !same_words(&s, &t) {
+    if !same_column(s, t) {
         return false;
     }
     let e = a.ends;
     let f = b.ends;
-    same_words(&e, &f)
-}
-
-fn same_latest(a: &[u64; 64], b: &[u64; 64]) -> bool {
-    same_words(a, b)
-}
-
-fn same_amounts(a: ResourceTimeline, b: ResourceTimeline) -> bool {
+    if !same_column(e, f) {
+        return false;
+    }
     let l = a.latest;
     let m = b.latest;
-    if !same_latest(&l, &m) {
+    if !same_column(l, m) {
         return false;
     }
     let u = a.units;
     let v = b.units;
-    same_units(&u, &v)
+    same_units(u, v)
 }
 
-fn same_diary(a: ResourceTimeline, b: ResourceTimeline) -> bool {
+fn same_diary(a: ResourceTimeline, b: ResourceTimeline) -> bool
+    ensures { λ r. ⌜ (r ≡ true → a ≡ b) ⌝ }
+{
     if a.capacity != b.capacity {
         return false;
     }
@@ -160,13 +168,12 @@ fn same_diary(a: ResourceTimeline, b: ResourceTimeline) -> bool {
     if !same_calendar(a.calendar, b.calendar) {
         return false;
     }
-    if !same_bookings(a, b) {
-        return false;
-    }
-    same_amounts(a, b)
+    same_bookings(a, b)
 }
 
-fn same_matrix(a: TransitionMatrix, b: TransitionMatrix) -> bool {
+fn same_matrix(a: TransitionMatrix, b: TransitionMatrix) -> bool
+    ensures { λ r. ⌜ (r ≡ true → a ≡ b) ⌝ }
+{
     if a.present != b.present {
         return false;
     }
@@ -178,15 +185,17 @@ fn same_matrix(a: TransitionMatrix, b: TransitionMatrix) -> bool {
     }
     let s = a.transitions;
     let t = b.transitions;
-    if !same_transitions(&s, &t) {
+    if !same_signed(&s, &t) {
         return false;
     }
     let i = a.initials;
     let j = b.initials;
-    same_initials(&i, &j)
+    same_signed(&i, &j)
 }
 
-fn same_last(a: LastCategory, b: LastCategory) -> bool {
+fn same_last(a: LastCategory, b: LastCategory) -> bool
+    ensures { λ r. ⌜ (r ≡ true → a ≡ b) ⌝ }
+{
     match a {
         LastCategory::Nothing => match b {
             LastCategory::Nothing => true,
@@ -199,7 +208,9 @@ fn same_last(a: LastCategory, b: LastCategory) -> bool {
     }
 }
 
-fn same_resource(a: Resource, b: Resource) -> bool {
+fn same_resource(a: Resource, b: Resource) -> bool
+    ensures { λ r. ⌜ (r ≡ true → a ≡ b) ⌝ }
+{
     if a.number != b.number {
         return false;
     }
@@ -214,7 +225,7 @@ fn same_resource(a: Resource, b: Resource) -> bool {
     }
     let c = a.companions;
     let d = b.companions;
-    if !same_companions(&c, &d) {
+    if !same_companions(c, d) {
         return false;
     }
     let l = a.last;
@@ -228,7 +239,9 @@ fn same_resource(a: Resource, b: Resource) -> bool {
     same_diary(a.timeline, b.timeline)
 }
 
-fn same_resources(a: [Resource; 16], b: [Resource; 16]) -> bool {
+fn same_resources(a: [Resource; 16], b: [Resource; 16]) -> bool
+    ensures { λ r. ⌜ (r ≡ true → a ≡ b) ⌝ }
+{
     let mut i: usize = 0;
     while i < 16 {
         let r = a[i];
@@ -241,7 +254,9 @@ fn same_resources(a: [Resource; 16], b: [Resource; 16]) -> bool {
     true
 }
 
-pub fn same_board(a: Board, b: Board) -> bool {
+pub fn same_board(a: Board, b: Board) -> bool
+    ensures { λ r. ⌜ (r ≡ true → a ≡ b) ⌝ }
+{
     if a.len != b.len {
         return false;
     }

@@ -130,42 +130,36 @@ module _ (P : Booking → Bool) (ss es us : List ℕ) where
       t .is ∙ sym (rw e at (rest i (n - i) (λ k a b. f k a (omega arith))))
 
 -- overlapping [s, e)
-abbrev pub overlapsIn : ℕ → ℕ → Booking → Bool
-overlapsIn s e b = overlaps (b .start) (b .end) s e
-
-pub tally-over : (bs : List Booking) (s e : ℕ) → tally (overlapsIn s e) bs ≡ overlapping bs s e
+pub tally-over : (bs : List Booking) (s e : ℕ) → tally (λ b. overlaps b s e) bs ≡ overlapping bs s e
 unfolding tally overlapping
 tally-over [] s e = refl
 tally-over (b ∷ bs) s e = rw (tally-over bs s e) refl
 
-pub over-yes : (a z s e : ℕ) → a < e → s < z → overlaps a z s e ≡ true
+pub over-yes : (b : Booking) (s e : ℕ) → b .start < e → s < b .end → overlaps b s e ≡ true
 unfolding overlaps
-over-yes a z s e h l = simp (lt-ltb _ _ h, lt-ltb _ _ l)
+over-yes b s e h l = simp (lt-ltb _ _ h, lt-ltb _ _ l)
 
-pub over-past : (a z s e : ℕ) → z ≤ s → overlaps a z s e ≡ false
+pub over-past : (b : Booking) (s e : ℕ) → b .end ≤ s → overlaps b s e ≡ false
 unfolding overlaps
-over-past a z s e h = no-way _ (λ t. absurd (omega (arith, ltb-true s z (and-split (ltb a e) (ltb s z) t .1))))
+over-past b s e h = no-way _ (λ t. absurd (omega (arith, ltb-true s (b .end) (and-split (ltb (b .start) e) (ltb s (b .end)) t .1))))
 
-pub over-ahead : (a z s e : ℕ) → e ≤ a → overlaps a z s e ≡ false
+pub over-ahead : (b : Booking) (s e : ℕ) → e ≤ b .start → overlaps b s e ≡ false
 unfolding overlaps
-over-ahead a z s e h = no-way _ (λ t. absurd (omega (arith, ltb-true a e (and-split (ltb a e) (ltb s z) t .0))))
+over-ahead b s e h = no-way _ (λ t. absurd (omega (arith, ltb-true (b .start) e (and-split (ltb (b .start) e) (ltb s (b .end)) t .0))))
 
 -- on at p of [s, e)
-abbrev pub onIn : ℕ → ℕ → ℕ → Booking → Bool
-onIn s e p b = onAt (b .start) (b .end) s e p
-
-pub tally-load : (bs : List Booking) (s e p : ℕ) → tally (onIn s e p) bs ≡ load bs s e p
+pub tally-load : (bs : List Booking) (s e p : ℕ) → tally (λ b. onAt b s e p) bs ≡ load bs s e p
 unfolding tally load
 tally-load [] s e p = refl
 tally-load (b ∷ bs) s e p = rw (tally-load bs s e p) refl
 
-pub on-past : (a z s e p : ℕ) → s ≤ p → z ≤ p → onAt a z s e p ≡ false
-on-past a z s e p g h = no-way _ (λ t. absurd (omega (arith, on a z s e p t .to)))
+pub on-past : (b : Booking) (s e p : ℕ) → s ≤ p → b .end ≤ p → onAt b s e p ≡ false
+on-past b s e p g h = no-way _ (λ t. absurd (omega (arith, on b s e p t .to)))
 
-pub on-ahead : (a z s e p : ℕ) → e ≤ a ⊎ p < a → onAt a z s e p ≡ false
-on-ahead a z s e p h =
+pub on-ahead : (b : Booking) (s e p : ℕ) → e ≤ b .start ⊎ p < b .start → onAt b s e p ≡ false
+on-ahead b s e p h =
     no-way _
-    (λ t. ⊎-elim (λ (l : e ≤ a). absurd (omega (arith, on a z s e p t .starts))) (λ (l : p < a). absurd (omega (arith, on a z s e p t .from))) h)
+    (λ t. ⊎-elim (λ (l : e ≤ b .start). absurd (omega (arith, on b s e p t .starts))) (λ (l : p < b .start). absurd (omega (arith, on b s e p t .from))) h)
 
-pub on-yes : (a z s e p : ℕ) → s ≤ p → a < e → a ≤ p → p < z → onAt a z s e p ≡ true
-on-yes a z s e p g h l m = is-on a z s e p (record { starts = h; ends = omega arith; from = l; to = m })
+pub on-yes : (b : Booking) (s e p : ℕ) → s ≤ p → b .start < e → b .start ≤ p → p < b .end → onAt b s e p ≡ true
+on-yes b s e p g h l m = is-on b s e p (record { starts = h; ends = omega arith; from = l; to = m })

@@ -4,14 +4,14 @@ use mathlib.Core.Bool.{Bool, true, false, _&&_, cond}
 use mathlib.Core.List.{List, [], _∷_}
 use mathlib.Core.Logic.{_⊎_, inl, inr, ⊎-elim}
 use Prim.Native.Nat.{ℕ, zero, suc, _+_, _-_, _≤_, _<_, max}
-use native.Mathlib.Nat.{eq-or-lt-of-le}
 use native.Mathlib.Omega.{arith}
 use lib.ListN.{getD, length}
 use lib.Dec.{leb, ltb}
 use borrow.Author.Tests.{leb-true, ltb-true, le-leb, lt-ltb}
-use Rattle.calendar.specs.Basics.{and-split, and-join, no-way, not-both, lt-or-ge}
+use Rattle.calendar.specs.Basics.{and-split, no-way, not-both, lt-or-ge}
+use Rattle.calendar.specs.Every.{from-at, from-all}
 use Rattle.timeline.specs.Bookings.{Booking}
-use Rattle.timeline.specs.Free.{overlaps, onAt, load, roomAt, roomFrom, free}
+use Rattle.timeline.specs.Free.{overlaps, onAt, load, roomAt, free}
 use Rattle.timeline.specs.Steps.{overlapping}
 use Rattle.timeline.proofs.Rows.{none}
 
@@ -22,17 +22,17 @@ pub record On (a z s e p : ℕ) : Type 0 where
   pub from : a ≤ p
   pub to : p < z
 
-pub on : (a z s e p : ℕ) → onAt a z s e p ≡ true → On a z s e p
+pub on : (b : Booking) (s e p : ℕ) → onAt b s e p ≡ true → On (b .start) (b .end) s e p
 unfolding onAt overlaps
-on a z s e p h =
-    let h1 = and-split (overlaps a z s e) (leb a p && ltb p z) h in
-    let h2 = and-split (ltb a e) (ltb s z) (h1 .0) in
-    let h3 = and-split (leb a p) (ltb p z) (h1 .1) in
+on b s e p h =
+    let h1 = and-split (overlaps b s e) (leb (b .start) p && ltb p (b .end)) h in
+    let h2 = and-split (ltb (b .start) e) (ltb s (b .end)) (h1 .0) in
+    let h3 = and-split (leb (b .start) p) (ltb p (b .end)) (h1 .1) in
     record { starts = ltb-true _ _ (h2 .0); ends = ltb-true _ _ (h2 .1); from = leb-true _ _ (h3 .0); to = ltb-true _ _ (h3 .1) }
 
-pub is-on : (a z s e p : ℕ) → On a z s e p → onAt a z s e p ≡ true
+pub is-on : (b : Booking) (s e p : ℕ) → On (b .start) (b .end) s e p → onAt b s e p ≡ true
 unfolding onAt overlaps
-is-on a z s e p f = simp (lt-ltb _ _ (f .starts), lt-ltb _ _ (f .ends), le-leb _ _ (f .from), lt-ltb _ _ (f .to))
+is-on b s e p f = simp (lt-ltb _ _ (f .starts), lt-ltb _ _ (f .ends), le-leb _ _ (f .from), lt-ltb _ _ (f .to))
 
 cond-le : (x y : Bool) (u : ℕ) → (x ≡ true → y ≡ true) → cond x u 0 ≤ cond y u 0
 cond-le true y u f = rw (f refl) (omega arith)
@@ -47,7 +47,7 @@ load-le [] s e p s′ e′ q f = omega arith
 load-le (b ∷ bs) s e p s′ e′ q f =
     omega (
       arith,
-      cond-le (onAt (b .start) (b .end) s e p) (onAt (b .start) (b .end) s′ e′ q) (b .units) (λ h. is-on _ _ _ _ _ (f 0 (omega arith) (on _ _ _ _ _ h))),
+      cond-le (onAt b s e p) (onAt b s′ e′ q) (b .units) (λ h. is-on b s′ e′ q (f 0 (omega arith) (on b s e p h))),
       load-le bs s e p s′ e′ q (λ k l. f (suc k) (omega arith)),
     )
 
@@ -55,10 +55,10 @@ load-le (b ∷ bs) s e p s′ e′ q f =
 pub load-over : (bs : List Booking) (s e p : ℕ) → load bs s e p ≤ overlapping bs s e
 unfolding load overlapping overlaps
 load-over [] s e p = omega arith
-load-over (b ∷ bs) s e p = omega (arith, cond-le (onAt (b .start) (b .end) s e p) (overlaps (b .start) (b .end) s e) (b .units) (on-over _ _ _ _ _), load-over bs s e p)
+load-over (b ∷ bs) s e p = omega (arith, cond-le (onAt b s e p) (overlaps b s e) (b .units) on-over, load-over bs s e p)
   where
-    on-over : (a z s e p : ℕ) → onAt a z s e p ≡ true → overlaps a z s e ≡ true
-    on-over a z s e p h = simp (lt-ltb _ _ (on a z s e p h .starts), lt-ltb _ _ (on a z s e p h .ends))
+    on-over : onAt b s e p ≡ true → overlaps b s e ≡ true
+    on-over h = simp (lt-ltb _ _ (on b s e p h .starts), lt-ltb _ _ (on b s e p h .ends))
 
 -- the latest booking start up to p, and s where there is none after it
 lastStart : List Booking → ℕ → ℕ → ℕ
@@ -137,26 +137,10 @@ every-instant cap bs u s e few at0 f = record {
         (λ k l o. record { starts = o .starts; ends = o .ends; from = last-max bs s p k l (o .from); to = omega (arith, last-to bs s p a, o .to) }) in
         omega arith
 
-room-all : (cap : ℕ) (bs : List Booking) (u s e p k : ℕ) → ((q : ℕ) → p ≤ q → q < p + k → load bs s e q + u ≤ cap) → roomFrom cap bs u s e p k ≡ true
-unfolding roomFrom
-room-all cap bs u s e p zero f = refl
-room-all cap bs u s e p (suc k) f =
-    and-join _ _ (le-leb _ _ (f p (omega arith) (omega arith))) (room-all cap bs u s e (suc p) k (λ q h l. f q (omega arith) (omega arith)))
-
-room-at : (cap : ℕ) (bs : List Booking) (u s e p k : ℕ) → roomFrom cap bs u s e p k ≡ true → (q : ℕ) → p ≤ q → q < p + k → load bs s e q + u ≤ cap
-unfolding roomFrom
-room-at cap bs u s e p zero h q a l = absurd (omega arith)
-room-at cap bs u s e p (suc k) h q a l =
-    let w = and-split (roomAt cap bs u s e p) (roomFrom cap bs u s e (suc p) k) h in
-    ⊎-elim
-    (λ (x : p ≡ q). rw (← x) (leb-true _ _ (w .0)))
-    (λ (x : p < q). room-at cap bs u s e (suc p) k (w .1) q x (omega arith))
-    (eq-or-lt-of-le a)
-
 pub free-yes : (cap : ℕ) (bs : List Booking) (u s e : ℕ) → Free cap bs u s e → free cap bs u s e ≡ true
 unfolding free
 free-yes cap bs u s e f =
-    let x : roomFrom cap bs u s e s (e - s) ≡ true = room-all cap bs u s e s (e - s) (λ q h l. f .fits q (inr (h, omega arith))) in
+    let x = from-all (roomAt cap bs u s e) s (e - s) (λ q h l. le-leb _ _ (f .fits q (inr (h, omega arith)))) in
     simp (le-leb _ _ (f .few), le-leb _ _ (f .fits s (inl refl)), x)
 
 pub free-facts : (cap : ℕ) (bs : List Booking) (u s e : ℕ) → free cap bs u s e ≡ true → Free cap bs u s e
@@ -169,7 +153,7 @@ free-facts cap bs u s e h =
       fits = λ p i.
           ⊎-elim
           (λ (q : p ≡ s). rw q (leb-true _ _ (v .0)))
-          (λ (q : (s ≤ p) × (p < e)). room-at cap bs u s e s (e - s) (v .1) p (q .0) (omega arith))
+          (λ (q : (s ≤ p) × (p < e)). leb-true _ _ (from-at (roomAt cap bs u s e) s (e - s) (v .1) p (q .0) (omega arith)))
           i;
     }
 

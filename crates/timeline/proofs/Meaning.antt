@@ -101,14 +101,14 @@ times-remove b c (x ∷ xs) = go (same b x) refl (times-remove b c xs)
     go true e h = rw (same-is b x e) (omega arith)
     go false e h = omega arith
 
-load-remove : (b : Booking) (xs : List Booking) (s e p : ℕ) → 1 ≤ times b xs → load xs s e p ≡ cond (onAt (b .start) (b .end) s e p) (b .units) 0 + load (remove b xs) s e p
+load-remove : (b : Booking) (xs : List Booking) (s e p : ℕ) → 1 ≤ times b xs → load xs s e p ≡ cond (onAt b s e p) (b .units) 0 + load (remove b xs) s e p
 unfolding times remove load
 load-remove b [] s e p h = absurd (omega arith)
 load-remove b (x ∷ xs) s e p h = go (same b x) refl (load-remove b xs s e p) h
   where
-    go : (q : Bool) → same b x ≡ q → (1 ≤ times b xs → load xs s e p ≡ cond (onAt (b .start) (b .end) s e p) (b .units) 0 + load (remove b xs) s e p)
+    go : (q : Bool) → same b x ≡ q → (1 ≤ times b xs → load xs s e p ≡ cond (onAt b s e p) (b .units) 0 + load (remove b xs) s e p)
         → 1 ≤ cond q 1 0 + times b xs
-        → cond (onAt (x .start) (x .end) s e p) (x .units) 0 + load xs s e p ≡ cond (onAt (b .start) (b .end) s e p) (b .units) 0 + load (cond q xs (x ∷ remove b xs)) s e p
+        → cond (onAt x s e p) (x .units) 0 + load xs s e p ≡ cond (onAt b s e p) (b .units) 0 + load (cond q xs (x ∷ remove b xs)) s e p
     go true g f h = rw (same-is b x g) refl
     go false g f h = omega (arith, f (omega arith))
 

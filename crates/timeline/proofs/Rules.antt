@@ -1,10 +1,8 @@
--- The rules of a diary as facts, from the test and back; how the definitions of filled and empty cells go on by one cell.
-use mathlib.Core.Path.{_≡_, refl}
-use mathlib.Core.Bool.{true, _&&_}
+-- The rules of a diary as facts, from the test and back.
+use mathlib.Core.Path.{_≡_}
+use mathlib.Core.Bool.{true}
 use mathlib.Core.List.{List}
-use mathlib.Core.Logic.{_⊎_, ⊎-elim}
-use Prim.Native.Nat.{ℕ, zero, suc, _+_, _-_, _^_, _≤_, _<_, max}
-use native.Mathlib.Nat.{eq-or-lt-of-le}
+use Prim.Native.Nat.{ℕ, _+_, _-_, _^_, _≤_, _<_, max}
 use native.Mathlib.Numerals.{add-one}
 use native.Mathlib.Omega.{arith}
 use lib.ListN.{getD}
@@ -12,57 +10,16 @@ use borrow.Author.Tests.{leb-true, ltb-true, eqb-true, le-leb, lt-ltb, eq-eqb}
 use Rattle.calendar.specs.declared.Calendar.{Calendar}
 use Rattle.calendar.specs.declared.Added.{Added}
 use Rattle.calendar.specs.Valid as calendar
-use Rattle.calendar.specs.Basics.{and-split, and-join}
+use Rattle.calendar.specs.Basics.{and-split}
+use Rattle.calendar.specs.Every.{from-at, from-all}
 use Rattle.timeline.specs.declared.ResourceTimeline.{ResourceTimeline}
 use Rattle.timeline.specs.Bookings.{bookings, total}
 use Rattle.timeline.specs.Valid.{before, cellRight, cellEmpty, filledAt, emptyAt, filledFrom, emptyFrom, valid}
 use Rattle.timeline.specs.Book.{withCalendar, calendarReply}
 
-pub filled-step : (t : ResourceTimeline) (i n : ℕ) → i < n → filledFrom t i (n - i) ≡ filledAt t i && filledFrom t (i + 1) (n - (i + 1))
-unfolding filledFrom
-filled-step t i n h =
-    let e : n - i ≡ suc (n - (i + 1)) = omega arith in
-    rw (e, add-one i)
-
-pub empty-step : (t : ResourceTimeline) (i n : ℕ) → i < n → emptyFrom t i (n - i) ≡ emptyAt t i && emptyFrom t (i + 1) (n - (i + 1))
-unfolding emptyFrom
-empty-step t i n h =
-    let e : n - i ≡ suc (n - (i + 1)) = omega arith in
-    rw (e, add-one i)
-
 pub before-step : (xs : List ℕ) (i : ℕ) → getD xs i 0 ≡ before xs (i + 1)
 unfolding before
 before-step xs i = rw (add-one i)
-
-pub filled-at : (t : ResourceTimeline) (i k : ℕ) → filledFrom t i k ≡ true → (j : ℕ) → i ≤ j → j < i + k → filledAt t j ≡ true
-unfolding filledFrom
-filled-at t i zero e j h l = absurd (omega arith)
-filled-at t i (suc k) e j h l =
-    ⊎-elim
-    (λ eq. rw (← eq) (and-split (filledAt t i) (filledFrom t (suc i) k) e .0))
-    (λ lt. filled-at t (suc i) k (and-split (filledAt t i) (filledFrom t (suc i) k) e .1) j lt (omega arith))
-    (eq-or-lt-of-le h)
-
-empty-at : (t : ResourceTimeline) (i k : ℕ) → emptyFrom t i k ≡ true → (j : ℕ) → i ≤ j → j < i + k → emptyAt t j ≡ true
-unfolding emptyFrom
-empty-at t i zero e j h l = absurd (omega arith)
-empty-at t i (suc k) e j h l =
-    ⊎-elim
-    (λ eq. rw (← eq) (and-split (emptyAt t i) (emptyFrom t (suc i) k) e .0))
-    (λ lt. empty-at t (suc i) k (and-split (emptyAt t i) (emptyFrom t (suc i) k) e .1) j lt (omega arith))
-    (eq-or-lt-of-le h)
-
-filled-all : (t : ResourceTimeline) (i k : ℕ) → ((j : ℕ) → i ≤ j → j < i + k → filledAt t j ≡ true) → filledFrom t i k ≡ true
-unfolding filledFrom
-filled-all t i zero f = refl
-filled-all t i (suc k) f =
-    and-join _ _ (f i (omega arith) (omega arith)) (filled-all t (suc i) k (λ j h l. f j (omega arith) (omega arith)))
-
-empty-all : (t : ResourceTimeline) (i k : ℕ) → ((j : ℕ) → i ≤ j → j < i + k → emptyAt t j ≡ true) → emptyFrom t i k ≡ true
-unfolding emptyFrom
-empty-all t i zero f = refl
-empty-all t i (suc k) f =
-    and-join _ _ (f i (omega arith) (omega arith)) (empty-all t (suc i) k (λ j h l. f j (omega arith) (omega arith)))
 
 -- a filled cell
 pub record CellFacts (s e u l ps pl : ℕ) : Type 0 where
@@ -135,10 +92,10 @@ pub record Rules (t : ResourceTimeline) : Type 0 where
   pub sum : t .booked ≡ total (bookings t)
 
 filled-cells : (t : ResourceTimeline) → filledFrom t 0 (t .len) ≡ true → (i : ℕ) → i < t .len → CellOf t i
-filled-cells t f i l = cell-facts _ _ _ _ _ _ (filled-at t 0 (t .len) f i (omega arith) (omega arith))
+filled-cells t f i l = cell-facts _ _ _ _ _ _ (from-at (filledAt t) 0 (t .len) f i (omega arith) (omega arith))
 
 empty-cells : (t : ResourceTimeline) → emptyFrom t (t .len) (64 - t .len) ≡ true → (i : ℕ) → t .len ≤ i → i < 64 → EmptyOf t i
-empty-cells t f i g l = empty-facts t i (empty-at t (t .len) (64 - t .len) f i g (omega arith))
+empty-cells t f i g l = empty-facts t i (from-at (emptyAt t) (t .len) (64 - t .len) f i g (omega arith))
 
 pub rules : (t : ResourceTimeline) → valid t ≡ true → Rules t
 unfolding valid
@@ -162,9 +119,9 @@ rules t h =
 pub ruled : (t : ResourceTimeline) → Rules t → valid t ≡ true
 unfolding valid
 ruled t r =
-    let f : filledFrom t 0 (t .len) ≡ true = filled-all t 0 (t .len) (λ j h l. cell-right _ _ _ _ _ _ (r .filled j (omega arith))) in
+    let f : filledFrom t 0 (t .len) ≡ true = from-all (filledAt t) 0 (t .len) (λ j h l. cell-right _ _ _ _ _ _ (r .filled j (omega arith))) in
     let e : emptyFrom t (t .len) (64 - t .len) ≡ true =
-    empty-all t (t .len) (64 - t .len) (λ j h l. cell-empty t j (r .empty j h (omega (arith, r .room)))) in
+    from-all (emptyAt t) (t .len) (64 - t .len) (λ j h l. cell-empty t j (r .empty j h (omega (arith, r .room)))) in
     simp (r .calendar, le-leb _ _ (r .some), lt-ltb _ _ (r .few), le-leb _ _ (r .room), f, e, eq-eqb _ _ (r .sum))
 
 -- the same diary with another calendar that keeps the rules

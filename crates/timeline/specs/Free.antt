@@ -1,32 +1,28 @@
 -- 01, 'Diary': when units are free over a span.
-use Prim.Native.Nat.{ℕ, zero, suc, _+_, _-_}
-use mathlib.Core.Bool.{Bool, true, _&&_, cond}
+use Prim.Native.Nat.{ℕ, _+_, _-_}
+use mathlib.Core.Bool.{Bool, _&&_, cond}
 use mathlib.Core.List.{List, [], _∷_}
 use lib.Dec.{leb, ltb}
+use Rattle.calendar.specs.Every.{everyFrom}
 use Rattle.timeline.specs.Bookings.{Booking}
 
--- a booking from a to z overlaps the span [s, e)
-unfoldable pub overlaps : ℕ → ℕ → ℕ → ℕ → Bool
-overlaps a z s e = ltb a e && ltb s z
+-- a booking overlaps the span [s, e) when its start < e and s < its end
+unfoldable pub overlaps : Booking → ℕ → ℕ → Bool
+overlaps b s e = ltb (b .start) e && ltb s (b .end)
 
--- and is on at instant p: start ≤ p < end
-unfoldable pub onAt : ℕ → ℕ → ℕ → ℕ → ℕ → Bool
-onAt a z s e p = overlaps a z s e && (leb a p && ltb p z)
+-- it overlaps, and start ≤ p < end
+unfoldable pub onAt : Booking → ℕ → ℕ → ℕ → Bool
+onAt b s e p = overlaps b s e && (leb (b .start) p && ltb p (b .end))
 
--- the load at instant p: the units of overlapping bookings that are on then
+-- the load at instant p: the units of overlapping bookings with start ≤ p < end
 unfoldable pub load : List Booking → ℕ → ℕ → ℕ → ℕ
 load [] s e p = 0
-load (b ∷ bs) s e p = cond (onAt (b .start) (b .end) s e p) (b .units) 0 + load bs s e p
+load (b ∷ bs) s e p = cond (onAt b s e p) (b .units) 0 + load bs s e p
 
 -- u more stay within the capacity at instant p
 abbrev pub roomAt : ℕ → List Booking → ℕ → ℕ → ℕ → ℕ → Bool
 roomAt capacity bs u s e p = leb (load bs s e p + u) capacity
 
--- and at the k instants from p on
-unfoldable pub roomFrom : ℕ → List Booking → ℕ → ℕ → ℕ → ℕ → ℕ → Bool
-roomFrom capacity bs u s e p zero = true
-roomFrom capacity bs u s e p (suc k) = roomAt capacity bs u s e p && roomFrom capacity bs u s e (suc p) k
-
 -- u units are free over [s, e): u ≤ capacity, and at p = s and every p with s ≤ p < e, load + u ≤ capacity
 unfoldable pub free : ℕ → List Booking → ℕ → ℕ → ℕ → Bool
-free capacity bs u s e = leb u capacity && (roomAt capacity bs u s e s && roomFrom capacity bs u s e s (e - s))
+free capacity bs u s e = leb u capacity && (roomAt capacity bs u s e s && everyFrom (roomAt capacity bs u s e) s (e - s))

@@ -1,12 +1,13 @@
 -- 01, 'Diary': when a diary keeps the rules: its calendar's, its length, each booking's range, the order by start, the running latest ends, the
 -- booked total, and 0 in every cell past the length.
-use Prim.Native.Nat.{ℕ, zero, suc, _-_, _^_, max}
-use mathlib.Core.Bool.{Bool, true, _&&_}
+use Prim.Native.Nat.{ℕ, _-_, _^_, max}
+use mathlib.Core.Bool.{Bool, _&&_}
 use lib.ListN.{getD}
 use lib.Dec.{leb, ltb, eqb}
 use Rattle.calendar.specs.Limits.{lastInstant, mostUnits, mostBookings}
 use Rattle.timeline.specs.declared.ResourceTimeline.{ResourceTimeline}
 use Rattle.timeline.specs.Bookings.{bookings, total}
+use Rattle.calendar.specs.Every.{everyFrom}
 use Rattle.calendar.specs.Valid as calendar
 unfoldable pub use Rattle.columns.specs.Steps.{before}
 
@@ -29,13 +30,11 @@ abbrev pub emptyAt : ResourceTimeline → ℕ → Bool
 emptyAt t i = cellEmpty (getD (t .starts) i 0) (getD (t .ends) i 0) (getD (t .units) i 0) (getD (t .latest) i 0)
 
 -- the k cells from cell i on
-unfoldable pub filledFrom : ResourceTimeline → ℕ → ℕ → Bool
-filledFrom t i zero = true
-filledFrom t i (suc k) = filledAt t i && filledFrom t (suc i) k
+abbrev pub filledFrom : ResourceTimeline → ℕ → ℕ → Bool
+filledFrom t i k = everyFrom (filledAt t) i k
 
-unfoldable pub emptyFrom : ResourceTimeline → ℕ → ℕ → Bool
-emptyFrom t i zero = true
-emptyFrom t i (suc k) = emptyAt t i && emptyFrom t (suc i) k
+abbrev pub emptyFrom : ResourceTimeline → ℕ → ℕ → Bool
+emptyFrom t i k = everyFrom (emptyAt t) i k
 
 -- the cells: those up to the length filled, those past it empty, and the booked total
 abbrev pub cellsRight : ResourceTimeline → Bool

@@ -4,13 +4,13 @@ use borrow.Author.Tests.{not-true, not-false, le-leb, lt-leb}
 use mathlib.Core.Path.{_≡_, refl, sym, _∙_}
 use Prim.Native.Nat.{_-_, _≤_}
 use native.Mathlib.Omega.{arith}
-use Rattle.calendar.specs.Valid.{cellsRight, spansRight}
-use Rattle.calendar.proofs.Rules.{cells-step}
+use Rattle.calendar.specs.Valid.{cellAt, spansRight}
+use Rattle.calendar.specs.Every.{everyFrom, from-step, from-end}
 use Rattle.calendar.proofs.spans_right.Statement.{statement}
 use Rattle.calendar.proofs.spans_right.Tie as tie
 
 abbrev Inv-loop : tie.InvT-loop
-Inv-loop l n i₀ i = (n ≡ l .len) × (n ≤ 32) × (i ≤ 32) × (spansRight l ≡ cellsRight l i (32 - i))
+Inv-loop l n i₀ i = (n ≡ l .len) × (n ≤ 32) × (i ≤ 32) × (spansRight l ≡ everyFrom (cellAt l) i (32 - i))
 
 abbrev μ-loop : tie.MeasureT-loop
 μ-loop l n i₀ i = 32 - i
@@ -42,7 +42,7 @@ returns-2 : tie.Need-returns-2 Inv-loop μ-loop
 returns-2 c =
     let e = sym (c .before .cell-right .ensures) ∙ not-true _ (c .if2 .taken) in
     let v = c .before .before .before .before .before .loop .inv in
-    sym (v .3 ∙ cells-step _ _ (c .before .before .before .before .loop-test .taken) ∙ rw e refl)
+    sym (v .3 ∙ from-step _ _ _ (c .before .before .before .before .loop-test .taken) ∙ rw e refl)
 
 add-i : tie.Need-add-i Inv-loop μ-loop
 add-i c = search needs
@@ -54,13 +54,10 @@ loop-again : tie.Need-loop-again Inv-loop μ-loop
 loop-again c =
     let e = sym (c .before .cell-right .ensures) ∙ not-false _ (c .if2 .left) in
     let v = c .before .before .before .before .before .loop .inv in
-    (refl, omega arith, omega arith, v .3 ∙ cells-step _ _ (c .before .before .before .before .loop-test .taken) ∙ rw e refl)
+    (refl, omega arith, omega arith, v .3 ∙ from-step _ _ _ (c .before .before .before .before .loop-test .taken) ∙ rw e refl)
 
 returns-3 : tie.Need-returns-3 Inv-loop μ-loop
-unfolding cellsRight
-returns-3 c =
-    let e : 32 - c .before .loop .i ≡ 0 = omega arith in
-    sym (c .before .loop .inv .3 ∙ rw e refl)
+returns-3 c = sym (c .before .loop .inv .3 ∙ from-end _ _ _ (omega arith))
 
 pub spans-right-spec : {M : Type 1} → statement M
 spans-right-spec =

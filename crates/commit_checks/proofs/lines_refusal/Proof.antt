@@ -8,7 +8,8 @@ use mathlib.Core.List.{[]}
 use lib.ListN.{getD}
 use Rattle.scheduler.specs.Committing.{linesOf}
 use Rattle.commit_checks.specs.Lines.{numbered}
-use Rattle.commit_checks.proofs.Rows.{every-at, number-is, numbers-lines, units-lines, room-lines}
+use Rattle.calendar.specs.Every.{first-at}
+use Rattle.commit_checks.proofs.Rows.{number-is, numbers-lines, units-lines, room-lines}
 use Rattle.commit_checks.proofs.Refusing.{refused-off, refused-category, refused-start, refused-end, refused-order, refused-units, refused-room, refused-none, check-passed, check-failed}
 
 numbers-right-requires : tie.Need-numbers-right-requires
@@ -70,7 +71,7 @@ tally-of-requires c κs =
     let p = c .before .before .before .before .before .before .before .before .pre in
     let s = a .slate .now in
     let numbers = sym (c .before .before .before .before .before .before .before .numbers-right .ensures) ∙ not-false _ (c .before .before .before .before .before .before .if1 .left) in
-    (p .0, λ k m. number-is (a .places) (getD s k []) (every-at (numbered (a .places)) [] (a .count) s (p .0) numbers k m) .0)
+    (p .0, λ k m. number-is (a .places) (getD s k []) (first-at (numbered (a .places)) [] (a .count) s (p .0) numbers k m) .0)
 
 room-right-requires : tie.Need-room-right-requires
 room-right-requires c κs =

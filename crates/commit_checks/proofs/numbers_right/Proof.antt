@@ -7,7 +7,7 @@ use native.Mathlib.Omega.{arith}
 use lib.ListN.{length, getD, take}
 use Rattle.commit_checks.proofs.numbers_right.Statement.{statement}
 use Rattle.commit_checks.proofs.numbers_right.Tie as tie
-use Rattle.activity.specs.Check.{every}
+use Rattle.calendar.specs.Every.{every}
 use Rattle.commit_checks.specs.Lines.{numbered}
 use mathlib.Core.List.{[]}
 use Rattle.scheduler.specs.Arrays.{every-next, every-off}

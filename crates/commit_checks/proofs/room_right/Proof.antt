@@ -7,11 +7,11 @@ use native.Mathlib.Omega.{arith}
 use lib.ListN.{getD, take}
 use Rattle.commit_checks.proofs.room_right.Statement.{statement}
 use Rattle.commit_checks.proofs.room_right.Tie as tie
-use Rattle.activity.specs.Check.{every}
+use Rattle.calendar.specs.Every.{every, first-at}
 use Rattle.commit_checks.specs.Lines.{numbered, roomy}
 use mathlib.Core.List.{[]}
 use Rattle.scheduler.specs.Arrays.{every-next, every-off}
-use Rattle.commit_checks.proofs.Rows.{every-at, number-is, room-short, room-enough}
+use Rattle.commit_checks.proofs.Rows.{number-is, room-short, room-enough}
 
 abbrev Inv-loop : tie.InvT-loop
 Inv-loop slate count places lens tally i₀ i = (i ≤ count) × (every (roomy places lens tally) (take i slate) ≡ true)
@@ -42,7 +42,7 @@ mul-place c =
     let v = c .before .before .loop .inv in
     let i = c .before .before .loop .i in
     let l = c .before .loop-test .taken in
-    let w = number-is (a .t3) (getD (a .slate .now) i []) (every-at (numbered (a .t3)) [] (a .count) (a .slate .now) (p .0 .0) (p .0 .1) i l) in
+    let w = number-is (a .t3) (getD (a .slate .now) i []) (first-at (numbered (a .t3)) [] (a .count) (a .slate .now) (p .0 .0) (p .0 .1) i l) in
     let few = p .1 (getD (a .t3) (getD (getD (a .slate .now) i []) 0 0) 0) (w .1) in
     search needs
 
@@ -53,7 +53,7 @@ array-read-place c =
     let v = c .before .before .loop .inv in
     let i = c .before .before .loop .i in
     let l = c .before .loop-test .taken in
-    let w = number-is (a .t3) (getD (a .slate .now) i []) (every-at (numbered (a .t3)) [] (a .count) (a .slate .now) (p .0 .0) (p .0 .1) i l) in
+    let w = number-is (a .t3) (getD (a .slate .now) i []) (first-at (numbered (a .t3)) [] (a .count) (a .slate .now) (p .0 .0) (p .0 .1) i l) in
     let few = p .1 (getD (a .t3) (getD (getD (a .slate .now) i []) 0 0) 0) (w .1) in
     search needs
 
@@ -64,7 +64,7 @@ mul-if1 c =
     let v = c .before .before .loop .inv in
     let i = c .before .before .loop .i in
     let l = c .before .loop-test .taken in
-    let w = number-is (a .t3) (getD (a .slate .now) i []) (every-at (numbered (a .t3)) [] (a .count) (a .slate .now) (p .0 .0) (p .0 .1) i l) in
+    let w = number-is (a .t3) (getD (a .slate .now) i []) (first-at (numbered (a .t3)) [] (a .count) (a .slate .now) (p .0 .0) (p .0 .1) i l) in
     let few = p .1 (getD (a .t3) (getD (getD (a .slate .now) i []) 0 0) 0) (w .1) in
     search needs
 
@@ -75,7 +75,7 @@ array-read-if1 c =
     let v = c .before .before .loop .inv in
     let i = c .before .before .loop .i in
     let l = c .before .loop-test .taken in
-    let w = number-is (a .t3) (getD (a .slate .now) i []) (every-at (numbered (a .t3)) [] (a .count) (a .slate .now) (p .0 .0) (p .0 .1) i l) in
+    let w = number-is (a .t3) (getD (a .slate .now) i []) (first-at (numbered (a .t3)) [] (a .count) (a .slate .now) (p .0 .0) (p .0 .1) i l) in
     let few = p .1 (getD (a .t3) (getD (getD (a .slate .now) i []) 0 0) 0) (w .1) in
     search needs
 
@@ -86,7 +86,7 @@ mul-if1-2 c =
     let v = c .before .before .loop .inv in
     let i = c .before .before .loop .i in
     let l = c .before .loop-test .taken in
-    let w = number-is (a .t3) (getD (a .slate .now) i []) (every-at (numbered (a .t3)) [] (a .count) (a .slate .now) (p .0 .0) (p .0 .1) i l) in
+    let w = number-is (a .t3) (getD (a .slate .now) i []) (first-at (numbered (a .t3)) [] (a .count) (a .slate .now) (p .0 .0) (p .0 .1) i l) in
     let few = p .1 (getD (a .t3) (getD (getD (a .slate .now) i []) 0 0) 0) (w .1) in
     search needs
 
@@ -97,7 +97,7 @@ array-read-if1-2 c =
     let v = c .before .before .loop .inv in
     let i = c .before .before .loop .i in
     let l = c .before .loop-test .taken in
-    let w = number-is (a .t3) (getD (a .slate .now) i []) (every-at (numbered (a .t3)) [] (a .count) (a .slate .now) (p .0 .0) (p .0 .1) i l) in
+    let w = number-is (a .t3) (getD (a .slate .now) i []) (first-at (numbered (a .t3)) [] (a .count) (a .slate .now) (p .0 .0) (p .0 .1) i l) in
     let few = p .1 (getD (a .t3) (getD (getD (a .slate .now) i []) 0 0) 0) (w .1) in
     search needs
 
@@ -108,7 +108,7 @@ sub-if1 c =
     let v = c .before .before .loop .inv in
     let i = c .before .before .loop .i in
     let l = c .before .loop-test .taken in
-    let w = number-is (a .t3) (getD (a .slate .now) i []) (every-at (numbered (a .t3)) [] (a .count) (a .slate .now) (p .0 .0) (p .0 .1) i l) in
+    let w = number-is (a .t3) (getD (a .slate .now) i []) (first-at (numbered (a .t3)) [] (a .count) (a .slate .now) (p .0 .0) (p .0 .1) i l) in
     let few = p .1 (getD (a .t3) (getD (getD (a .slate .now) i []) 0 0) 0) (w .1) in
     search needs
 
@@ -119,7 +119,7 @@ returns c =
     let v = c .before .before .before .loop .inv in
     let i = c .before .before .before .loop .i in
     let l = c .before .before .loop-test .taken in
-    let w = number-is (a .t3) (getD (a .slate .now) i []) (every-at (numbered (a .t3)) [] (a .count) (a .slate .now) (p .0 .0) (p .0 .1) i l) in
+    let w = number-is (a .t3) (getD (a .slate .now) i []) (first-at (numbered (a .t3)) [] (a .count) (a .slate .now) (p .0 .0) (p .0 .1) i l) in
     let few = p .1 (getD (a .t3) (getD (getD (a .slate .now) i []) 0 0) 0) (w .1) in
     sym (every-off (roomy (a .t3) (a .t4) (a .t5)) [] (a .slate .now) i (a .count) l (p .0 .0) (room-short (a .t3) (a .t4) (a .t5) (getD (a .slate .now) i []) (omega (arith, c .if1 .taken, few))))
 
@@ -136,7 +136,7 @@ loop-again c =
     let v = c .before .before .before .loop .inv in
     let i = c .before .before .before .loop .i in
     let l = c .before .before .loop-test .taken in
-    let w = number-is (a .t3) (getD (a .slate .now) i []) (every-at (numbered (a .t3)) [] (a .count) (a .slate .now) (p .0 .0) (p .0 .1) i l) in
+    let w = number-is (a .t3) (getD (a .slate .now) i []) (first-at (numbered (a .t3)) [] (a .count) (a .slate .now) (p .0 .0) (p .0 .1) i l) in
     let few = p .1 (getD (a .t3) (getD (getD (a .slate .now) i []) 0 0) 0) (w .1) in
     (omega arith, every-next (roomy (a .t3) (a .t4) (a .t5)) [] (a .slate .now) i (omega (arith, p .0 .0)) (v .1) (room-enough (a .t3) (a .t4) (a .t5) (getD (a .slate .now) i []) (omega (arith, c .if1 .left, few))))
 

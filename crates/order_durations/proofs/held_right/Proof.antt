@@ -8,8 +8,8 @@ use Prim.Native.Nat.{ℕ, _-_, _≤_, _<_}
 use native.Mathlib.Omega.{arith}
 use lib.Dec.{leb}
 use lib.ListN.{length, getD, take, drop}
-use Rattle.activity.specs.Check.{every, heldRight}
-use Rattle.activity.proofs.Passing.{first-stop, first-more, first-done}
+use Rattle.calendar.specs.Every.{every, first-stop, first-more, first-done}
+use Rattle.activity.specs.Check.{heldRight}
 use Rattle.order_durations.proofs.held_right.Statement.{statement}
 use Rattle.order_durations.proofs.held_right.Tie as tie
 

@@ -5,7 +5,7 @@ use mathlib.Core.Path.{_≡_, refl, sym, _∙_}
 use Prim.Native.Nat.{_-_, _≤_}
 use native.Mathlib.Omega.{arith}
 use Rattle.timeline.specs.Valid.{emptyFrom}
-use Rattle.timeline.proofs.Rules.{empty-step}
+use Rattle.calendar.specs.Every.{from-step, from-end}
 use Rattle.timeline.proofs.empty.Statement.{statement}
 use Rattle.timeline.proofs.empty.Tie as tie
 
@@ -50,7 +50,7 @@ returns : tie.Need-returns Inv-loop μ-loop
 returns c =
     let e = sym (c .before .cell-empty .ensures) ∙ not-true _ (c .if1 .taken) in
     let d = c .before .before .before .before .before .before in
-    sym (d .before .loop .inv .1 ∙ empty-step _ _ _ (d .loop-test .taken) ∙ rw e refl)
+    sym (d .before .loop .inv .1 ∙ from-step _ _ _ (d .loop-test .taken) ∙ rw e refl)
 
 add-i : tie.Need-add-i Inv-loop μ-loop
 add-i c = search needs
@@ -62,13 +62,10 @@ loop-again : tie.Need-loop-again Inv-loop μ-loop
 loop-again c =
     let e = sym (c .before .cell-empty .ensures) ∙ not-false _ (c .if1 .left) in
     let d = c .before .before .before .before .before .before in
-    (omega arith, d .before .loop .inv .1 ∙ empty-step _ _ _ (d .loop-test .taken) ∙ rw e refl)
+    (omega arith, d .before .loop .inv .1 ∙ from-step _ _ _ (d .loop-test .taken) ∙ rw e refl)
 
 returns-2 : tie.Need-returns-2 Inv-loop μ-loop
-unfolding emptyFrom
-returns-2 c =
-    let e : 64 - c .before .loop .i ≡ 0 = omega arith in
-    sym (c .before .loop .inv .1 ∙ rw e refl)
+returns-2 c = sym (c .before .loop .inv .1 ∙ from-end _ _ _ (omega arith))
 
 pub empty-spec : {M : Type 1} → statement M
 empty-spec =

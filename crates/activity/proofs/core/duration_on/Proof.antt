@@ -6,12 +6,13 @@ use native.Mathlib.Omega.{arith}
 use lib.ListN.{length, getD}
 use lib.Ieee.{ofBits}
 use Rattle.speeds.proofs.Bounds.{within-more}
+use Rattle.activity.specs.Lawful.{leadingOf}
 use Rattle.activity.proofs.Holding.{Walk, walk-start, walk-step, walk-own, walk-base}
 use Rattle.activity.proofs.core.duration_on.Statement.{statement}
 use Rattle.activity.proofs.core.duration_on.Tie as tie
 
 abbrev Inv-loop : tie.InvT-loop
-Inv-loop base count timings held speed₀ fixed₀ i₀ speed fixed i = (length held ≡ 8) × (i ≤ count) × (count ≤ 8) × Walk timings held count speed fixed i
+Inv-loop base count timings held speed₀ fixed₀ i₀ speed fixed i = (length held ≡ 8) × (i ≤ count) × (count ≤ 8) × Walk timings held count speed (leadingOf fixed) i
 
 abbrev μ-loop : tie.MeasureT-loop
 μ-loop base count timings held speed₀ fixed₀ i₀ speed fixed i = count - i
@@ -60,7 +61,7 @@ loop-again c =
       l .inv .0,
       omega arith,
       l .inv .2,
-      walk-step (a .t2) (a .t3) (a .count) (l .speed) (c .before .times .result) (l .fixed) (c .greater .result) (l .i) (l .inv .3) lt (omega arith) (omega arith)
+      walk-step (a .t2) (a .t3) (a .count) (l .speed) (c .before .times .result) (leadingOf (l .fixed)) (leadingOf (c .greater .result)) (l .i) (l .inv .3) lt (omega arith) (omega arith)
           (at .before .pre .1 .1 .each (getD (a .t3) (l .i) 0)) (c .before .times .ensures) (c .greater .ensures),
     )
 

@@ -10,18 +10,18 @@ use Rattle.activity.specs.declared.ResourceTiming.the-variants.{Duration
 use Rattle.activity.specs.declared.timing.Fixed.{Fixed}
 use Rattle.activity.specs.declared.timing.Fixed.the-variants.{Unset, Own}
 use Rattle.activity.specs.Durations.{total, greater}
-use Rattle.activity.specs.Lawful.{LawfulTiming, LawfulFixed}
+use Rattle.activity.specs.Lawful.{LawfulTiming, LawfulLead, leadingOf}
 use Rattle.activity.proofs.timing.greater.Statement.{statement}
 use Rattle.activity.proofs.timing.greater.Tie as tie
 
 -- the first own durations, a greater total, and one that is not
-first : (f : Fixed) (t : ResourceTiming) (d : ActivityDuration) → f ≡ Unset → t ≡ Duration d → Own d ≡ greater f t
+first : (f : Fixed) (t : ResourceTiming) (d : ActivityDuration) → f ≡ Unset → t ≡ Duration d → leadingOf (Own d) ≡ greater (leadingOf f) t
 first f t d e k = sym (rw (e, k) refl)
 
-more : (f : Fixed) (t : ResourceTiming) (l d : ActivityDuration) → f ≡ Own l → t ≡ Duration d → total l < total d → Own d ≡ greater f t
+more : (f : Fixed) (t : ResourceTiming) (l d : ActivityDuration) → f ≡ Own l → t ≡ Duration d → total l < total d → leadingOf (Own d) ≡ greater (leadingOf f) t
 more f t l d e k h = sym (rw (e, k, lt-ltb (total l) (total d) h) refl)
 
-kept : (f : Fixed) (t : ResourceTiming) (l d : ActivityDuration) → f ≡ Own l → t ≡ Duration d → total d ≤ total l → Own l ≡ greater f t
+kept : (f : Fixed) (t : ResourceTiming) (l d : ActivityDuration) → f ≡ Own l → t ≡ Duration d → total d ≤ total l → leadingOf (Own l) ≡ greater (leadingOf f) t
 kept f t l d e k h = sym (rw (e, k, le-ltb (total l) (total d) h) refl)
 
 enum-told : tie.Need-enum-told
@@ -42,7 +42,7 @@ enum-known-fixed c = search needs
 total-requires : tie.Need-total-requires
 total-requires c κs =
     let s = c .before .before .before .before .before .before in
-    subst LawfulFixed (c .before .fixed .given .1) (s .pre .0)
+    subst (λ (f : Fixed). LawfulLead (leadingOf f)) (c .before .fixed .given .1) (s .pre .0)
 
 total-requires-2 : tie.Need-total-requires-2
 total-requires-2 c κs =

@@ -9,8 +9,9 @@ use native.Mathlib.Omega.{arith}
 use lib.Dec.{leb}
 use lib.ListN.{length, getD, take, drop}
 use Rattle.activity.specs.declared.ResourceRequirement.{ResourceRequirement}
-use Rattle.activity.specs.Check.{every, quantity, quantityRight, quantitiesRight}
-use Rattle.activity.proofs.Passing.{first-stop, first-more, first-done, quantity-step, quantity-end}
+use Rattle.calendar.specs.Every.{every, first-stop, first-more, first-done}
+use Rattle.activity.specs.Check.{quantity, quantityRight, quantitiesRight}
+use Rattle.activity.proofs.Passing.{quantity-step, quantity-end}
 use Rattle.activity.specs.Check.{noRequirement}
 use Rattle.order_checks.proofs.range.quantities_right.Statement.{statement}
 use Rattle.order_checks.proofs.range.quantities_right.Tie as tie

@@ -9,8 +9,8 @@ use lib.Dec.{leb}
 use lib.ListN.{length, take, drop}
 use Rattle.calendar.specs.Basics.{and-false}
 use Rattle.activity.specs.declared.ResourceRequirement.{ResourceRequirement}
-use Rattle.activity.specs.Check.{every, usageRight}
-use Rattle.activity.proofs.Passing.{first-stop, first-more, first-done}
+use Rattle.calendar.specs.Every.{every, first-stop, first-more, first-done}
+use Rattle.activity.specs.Check.{usageRight}
 use Rattle.activity.specs.Check.{noRequirement}
 use Rattle.order_checks.proofs.range.usages_right.Statement.{statement}
 use Rattle.order_checks.proofs.range.usages_right.Tie as tie

@@ -7,8 +7,8 @@ use native.Mathlib.Omega.{arith}
 use lib.ListN.{length, drop}
 use Rattle.activity.specs.declared.Timed.{Timed}
 use Rattle.activity.specs.Durations.{untimed}
-use Rattle.activity.specs.Check.{every, timingSpeed}
-use Rattle.activity.proofs.Passing.{all-stop, all-more, all-done}
+use Rattle.calendar.specs.Every.{every, all-stop, all-more, all-done}
+use Rattle.activity.specs.Check.{timingSpeed}
 use Rattle.order_checks.proofs.speed.speeds_right.Statement.{statement}
 use Rattle.order_checks.proofs.speed.speeds_right.Tie as tie
 

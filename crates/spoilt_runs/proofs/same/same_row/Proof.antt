@@ -1,6 +1,5 @@
--- `spoilt_runs::same::same_row` meets its contract: a row has four words.
+-- `spoilt_runs::same::same_row` meets its contract.
 use borrow.Author.Needs.{needs}
-use native.Mathlib.Omega.{arith}
 use Rattle.spoilt_runs.proofs.same.same_row.Statement.{statement}
 use Rattle.spoilt_runs.proofs.same.same_row.Tie as tie
 
@@ -14,7 +13,7 @@ same-words-requires : tie.Need-same-words-requires
 same-words-requires c κs = search needs
 
 returns : tie.Need-returns
-returns c = λ e j l. c .same-words .ensures e j (omega arith)
+returns c = λ h. c .same-words .ensures h
 
 pub same-row-spec : {M : Type 1} → statement M
 same-row-spec =

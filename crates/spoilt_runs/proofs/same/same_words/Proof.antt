@@ -1,16 +1,12 @@
 -- `spoilt_runs::same::same_words` meets its contract: the cells passed are the same.
 use borrow.Author.Needs.{needs}
 use borrow.Author.Count.{below-none, below-more}
-use mathlib.Core.Path.{_≡_, refl}
+use mathlib.Core.Path.{_≡_, refl, sym, _∙_}
+use mathlib.Core.Bool.{false≢true}
 use Prim.Native.Nat.{ℕ, _-_, _≤_, _<_}
 use native.Mathlib.Omega.{arith}
 use lib.ListN.{length, getD}
-use native.Mathlib.Omega.{arith}
-use borrow.Author.Count.{below-none, below-more}
-use mathlib.Core.Path.{_≡_, refl}
-use Prim.Native.Nat.{ℕ, _-_, _≤_, _<_}
-use lib.ListN.{length, getD}
-use Rattle.spoilt_runs.proofs.Never.{never}
+use lib.Seq.{ext-getD}
 use Rattle.spoilt_runs.proofs.same.same_words.Statement.{statement}
 use Rattle.spoilt_runs.proofs.same.same_words.Tie as tie
 
@@ -21,7 +17,7 @@ abbrev μ-loop : tie.MeasureT-loop
 μ-loop a b n i₀ i = n - i
 
 returns : tie.Need-returns Inv-loop μ-loop
-returns c = λ h. absurd (never h)
+returns c = λ h. absurd (false≢true h)
 
 loop-holds : tie.Need-loop-holds Inv-loop μ-loop
 loop-holds c = (omega arith, refl, c .if1 .left, below-none _)
@@ -39,7 +35,7 @@ shared-slice-read-if2-2 : tie.Need-shared-slice-read-if2-2 Inv-loop μ-loop
 shared-slice-read-if2-2 c = search needs
 
 returns-2 : tie.Need-returns-2 Inv-loop μ-loop
-returns-2 c = λ h. absurd (never h)
+returns-2 c = λ h. absurd (false≢true h)
 
 add-i : tie.Need-add-i Inv-loop μ-loop
 add-i c = search needs
@@ -53,7 +49,9 @@ loop-again c =
     (omega arith, v .1, v .2, below-more _ _ (v .3) (c .if2 .left))
 
 returns-3 : tie.Need-returns-3 Inv-loop μ-loop
-returns-3 c = λ h k l. c .before .loop .inv .3 k (omega arith)
+returns-3 c =
+    let v = c .before .loop .inv in
+    λ h. ext-getD 0 _ _ (sym (v .1) ∙ sym (v .2)) (λ k l. v .3 k (omega arith))
 
 pub same-words-spec : {M : Type 1} → statement M
 same-words-spec =

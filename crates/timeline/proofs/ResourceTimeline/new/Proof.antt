@@ -9,21 +9,22 @@ use Prim.Native.Nat.{ℕ, _^_, _≤_, _<_}
 use mir.Syntax.{w32}
 use mir.ValLaws.{toZ-ofZ}
 use Rattle.calendar.specs.declared.Calendar.{Calendar}
+use Rattle.calendar.specs.Every.{everyFrom}
 use Rattle.calendar.specs.Add.{empty}
 use Rattle.calendar.specs.Valid as calendar
 use Rattle.timeline.specs.Bookings.{bookingsTo, total}
-use Rattle.timeline.specs.Valid.{valid, filledFrom, emptyFrom, cellEmpty}
+use Rattle.timeline.specs.Valid.{valid, cellEmpty}
 use Rattle.timeline.specs.Diary.{capacityOf, diary, latestEnds}
 use Rattle.timeline.proofs.Rows.{empty-is}
 use Rattle.timeline.proofs.ResourceTimeline.new.Statement.{statement}
 use Rattle.timeline.proofs.ResourceTimeline.new.Tie as tie
 
 always-open : calendar.valid empty ≡ true
-unfolding empty calendar.valid calendar.spansRight calendar.cellsRight calendar.cellRight
+unfolding empty calendar.valid calendar.spansRight everyFrom calendar.cellRight
 always-open = refl
 
 new-valid : (capacity : ℕ) → 1 ≤ capacity → capacity < 2 ^ 31 → valid (diary capacity empty []) ≡ true
-unfolding diary latestEnds total bookingsTo valid filledFrom emptyFrom cellEmpty
+unfolding diary latestEnds total bookingsTo valid everyFrom cellEmpty
 new-valid capacity l h = simp (always-open, le-leb _ _ l, lt-ltb _ _ h)
 
 capacity-of-requires : tie.Need-capacity-of-requires
