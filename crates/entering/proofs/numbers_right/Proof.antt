@@ -2,6 +2,7 @@
 use borrow.Author.Needs.{needs}
 use borrow.Author.Tests.{le-leb, lt-leb}
 use mathlib.Core.Path.{_≡_, refl, sym, _∙_}
+use mathlib.Core.Bool.{true, false}
 use Prim.Native.Nat.{_-_, _≤_}
 use native.Mathlib.Omega.{arith}
 use lib.Dec.{leb}
@@ -26,7 +27,10 @@ shared-slice-read-if1 : tie.Need-shared-slice-read-if1 Inv-loop μ-loop
 shared-slice-read-if1 c = search needs
 
 returns : tie.Need-returns Inv-loop μ-loop
-returns c = sym (c .before .before .before .loop .inv .2 ∙ every-step _ _ _ (c .before .before .loop-test .taken) ∙ rw (lt-leb _ _ (c .if1 .taken)) refl)
+returns c =
+    let x = getD (c .before .before .before .before .args .companions .now) (c .before .before .before .loop .i) 0 in
+    let e : leb x 15 ≡ false = lt-leb x 15 (omega (arith, c .if1 .taken)) in
+    sym (c .before .before .before .loop .inv .2 ∙ every-step _ _ _ (c .before .before .loop-test .taken) ∙ rw e refl)
 
 add-i : tie.Need-add-i Inv-loop μ-loop
 add-i c = search needs
@@ -35,7 +39,10 @@ loop-less : tie.Need-loop-less Inv-loop μ-loop
 loop-less c = search needs
 
 loop-again : tie.Need-loop-again Inv-loop μ-loop
-loop-again c = (refl, omega arith, c .before .before .before .loop .inv .2 ∙ every-step _ _ _ (c .before .before .loop-test .taken) ∙ rw (le-leb _ _ (c .if1 .left)) refl)
+loop-again c =
+    let x = getD (c .before .before .before .before .args .companions .now) (c .before .before .before .loop .i) 0 in
+    let e : leb x 15 ≡ true = le-leb x 15 (omega (arith, c .if1 .left)) in
+    (refl, omega arith, c .before .before .before .loop .inv .2 ∙ every-step _ _ _ (c .before .before .loop-test .taken) ∙ rw e refl)
 
 returns-2 : tie.Need-returns-2 Inv-loop μ-loop
 returns-2 c = sym (c .before .loop .inv .2 ∙ every-end _ _ _ (omega arith))
