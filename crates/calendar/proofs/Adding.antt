@@ -74,9 +74,14 @@ unfolding added
 added-refused zero m c more e h = absurd (h refl)
 added-refused (suc n) m c more e h = rw (← e) refl
 
-pub added-taken : (m : ℕ) (c more : Calendar) → m ≡ 0 → record { refusal = 0; calendar = more } ≡ added m c more
-unfolding added
-added-taken m c more h = rw h refl
+module _ (m : ℕ) (c : Calendar) (r l : TimeWindows) (z : m ≡ 0) (e : r ≡ l) where
+  pub window-taken : record { refusal = 0; calendar = record { windows = r; blocks = c .blocks } } ≡ added m c (record { windows = l; blocks = c .blocks })
+  unfolding added
+  window-taken = rw (z, e) refl
+
+  pub block-taken : record { refusal = 0; calendar = record { windows = c .windows; blocks = r } } ≡ added m c (record { windows = c .windows; blocks = l })
+  unfolding added
+  block-taken = rw (z, e) refl
 
 -- one span more keeps the rules
 pub span-right : (l : TimeWindows) (s e : ℕ) → length (l .starts) ≡ 32 → length (l .ends) ≡ 32 → l .len < 32 → s < e → e ≤ 2 ^ 42 → spansRight l ≡ true → spansRight (withSpan l s e) ≡ true

@@ -1,3 +1,3 @@
 -- The proofs of the functions.
-mod Joining
+mod Greatest
 mod Parting

@@ -29,7 +29,8 @@ use Rattle.scheduler.specs.Fitting.{numberOf, numbersOf, durationTogether, held
 use Rattle.scheduler.specs.Holds.{noHold, heldOf, heldTo, OnPlaces}
 use Rattle.scheduler.specs.Lists.{Each, each-end, each-on}
 use Rattle.entries.specs.declared.Parts.{Parts}
-use Rattle.entries.specs.Parts.{noEntry, numberIn, keptSetup, setupAt, Taken, Parted}
+use Rattle.joining.specs.Cells.{noEntry, numberIn}
+use Rattle.entries.specs.Parts.{keptSetup, setupAt, Taken, Parted}
 use Rattle.plans.specs.declared.Plan.{Plan}
 use Rattle.plans.specs.Plans.{noPlan, planWith}
 use Rattle.scheduler.specs.Arrays.{cells-map, take-next, each-cells}

@@ -17,13 +17,7 @@ use Rattle.scheduler.specs.Holds.{noHold, heldTo, OnPlaces}
 use Rattle.plans.specs.declared.Plan.{Plan}
 use Rattle.plans.specs.Plans.{Planned}
 use Rattle.entries.specs.declared.Parts.{Parts}
-
--- what is read past an array's end
-abbrev pub noEntry : Entry
-noEntry = record { number = 0; setup = 0; units = 0; companion = false }
-
-abbrev pub numberIn : Entry → ℕ
-numberIn e = e .number
+pub use Rattle.joining.specs.Cells.{noEntry, Small}
 
 -- the setup kept for the k-th held; without a matrix it is `own`
 abbrev pub keptSetup : Parts → ℕ → ℕ → ℕ
@@ -32,10 +26,6 @@ keptSetup p own k = cond (getD (p .fixed) k false) (getD (p .setups) k 0) own
 -- the entry of the k-th held
 abbrev pub setupAt : Parts → List Hold → ℕ → ℕ → Entry
 setupAt p hs own k = record { number = getD (p .numbers) k 0; setup = keptSetup p own k; units = getD hs k noHold .usage; companion = false }
-
--- a resource number
-abbrev pub Small : ℕ → Type 0
-Small n = n < 16
 
 -- those held stand on a board that keeps the rules, and their plans are known
 pub record Taken (b : Board) (a : Activity) (ready : ℕ) (plans : List Plan) (hs : List Hold) (n : ℕ) : Type 0 where

@@ -1,37 +1,29 @@
-// The entries of those held together: their setups and span, and the companions that join (the second half of `place_activity` in
-// scheduler/simple.rs; 01, 'Fitting').
+// The entries of those held together: their setups and span, with the companions that join by `joining` (the second half of
+// `place_activity` in scheduler/simple.rs; 01, 'Fitting').
 use activity::Activity;
+use joining::Companions;
+pub use joining::Entries;
+use joining::join_each;
+pub use joining::no_entries;
 use plans::Plan;
 use scheduler::Entry;
 use scheduler::Hold;
 ghost use mathlib.Core.Path.{_≡_};
-ghost use mathlib.Core.List.{[], _∷_, _++_, map};
+ghost use mathlib.Core.List.{_++_};
 ghost use Prim.Native.Nat.{ℕ, _+_, _^_, _≤_, _<_};
-ghost use lib.ListN.{length, getD, take, replicate};
+ghost use lib.ListN.{length, getD, take};
 ghost use Rattle.activity.specs.declared.Activity as ordered;
 ghost use Rattle.activity.specs.Lawful.{Lawful};
 ghost use Rattle.board.specs.declared.Board as declared;
-ghost use Rattle.scheduler.specs.Fitting.{greatestSetup, among, joinEach, companionEntry, entriesOf, spanTogether};
+ghost use Rattle.scheduler.specs.Fitting.{greatestSetup, entriesOf, spanTogether};
 ghost use Rattle.scheduler.specs.Holds.{heldTo};
 ghost use Rattle.scheduler.specs.Lists.{Each};
-ghost use Rattle.entries.specs.Parts.{noEntry, numberIn, setupAt, Small, Taken, Parted};
-
-// The first `count` are the entries.
-pub struct Entries {
-    pub entries: [Entry; 24],
-    pub count: usize,
-}
+ghost use Rattle.entries.specs.Parts.{noEntry, setupAt, Small, Taken, Parted};
 
 // The entries of a placement, and its span.
 pub struct Together {
     pub entries: Entries,
     pub span: u64,
-}
-
-// The companions of those held, one behind another.
-struct Companions {
-    numbers: [u8; 32],
-    len: usize,
 }
 
 // What the entries take from the plans: the numbers held, the setups of those with a matrix, and the companions.
@@ -40,21 +32,6 @@ struct Parts {
     fixed: [bool; 8],
     setups: [u64; 8],
     companions: Companions,
-}
-
-pub fn no_entries() -> Entries
-    ensures { λ r. ⌜ (r .count ≡ 0) × (r .entries ≡ replicate 24 noEntry) ⌝ }
-{
-    let none = Entry {
-        number: 0,
-        setup: 0,
-        units: 0,
-        companion: false,
-    };
-    Entries {
-        entries: [none; 24],
-        count: 0,
-    }
 }
 
 // The first `count` of `more` go behind the list.
@@ -147,47 +124,6 @@ fn greatest_setup(e: Entries) -> u64
         i += 1;
     }
     most
-}
-
-fn is_among(e: Entries, number: u8) -> bool
-    requires { ⌜ e .count ≤ 24 ⌝ }
-    ensures { λ r. ⌜ r ≡ among number (map numberIn (take (e .count) (e .entries))) ⌝ }
-{
-    let n = e.count;
-    let mut i: usize = 0;
-    while i < n {
-        let x = e.entries[i];
-        if x.number == number {
-            return true;
-        }
-        i += 1;
-    }
-    false
-}
-
-// Companions not already there join once each, setup 0, unit 1.
-fn join_each(e: Entries, list: Companions) -> Entries
-    requires { ⌜ (e .count ≤ 8) × (list .len ≤ 32) × Each Small (take (list .len) (list .numbers)) ⌝ }
-    ensures { λ r. ⌜ (r .count ≤ 24) × (length (r .entries) ≡ 24) × (take (r .count) (r .entries) ≡ take (e .count) (e .entries) ++ map companionEntry (joinEach (map numberIn (take (e .count) (e .entries))) [] (take (list .len) (list .numbers)))) ⌝ }
-{
-    let n = list.len;
-    let mut more = e;
-    let mut i: usize = 0;
-    while i < n {
-        let number = list.numbers[i];
-        if !is_among(more, number) {
-            let k = more.count;
-            more.entries[k] = Entry {
-                number: number,
-                setup: 0,
-                units: 1,
-                companion: true,
-            };
-            more.count = k + 1;
-        }
-        i += 1;
-    }
-    more
 }
 
 // The entries of those held and their companions, and the span: the greatest setup among those held, process and teardown.

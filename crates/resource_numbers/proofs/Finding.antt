@@ -54,13 +54,13 @@ module _ (b : Board) (number : ℕ) where
       go nothing e m = refl
       go (at k) e m = absurd (omega (arith, lookup-below b (b .len) number k e, rules b v .few, m))
 
-  pub entry-on : valid b ≡ true → placeOf (lookup b number) < 16 → record { refusal = 0; place = placeOf (lookup b number) } ≡ entryFor b number
+  pub entry-on : (i : ℕ) → valid b ≡ true → i ≡ placeOf (lookup b number) → i < 16 → record { refusal = 0; place = i } ≡ entryFor b number
   unfolding entryFor placeOf entryAt
-  entry-on v l = rw v (go (lookup b number) l)
+  entry-on i v e l = rw v (go (lookup b number) e)
     where
-      go : (f : Found) → placeOf f < 16 → record { refusal = 0; place = placeOf f } ≡ entryAt f
-      go nothing m = absurd (omega arith)
-      go (at k) m = refl
+      go : (f : Found) → i ≡ placeOf f → record { refusal = 0; place = i } ≡ entryAt f
+      go nothing q = absurd (omega arith)
+      go (at k) q = rw q refl
 
 -- a place that is found is a cell of the array
 pub found-below : (b : Board) (number i : ℕ) → valid b ≡ true → lookup b number ≡ at i → i < 16

@@ -6,7 +6,7 @@ use Prim.Native.Nat.{_-_}
 use native.Mathlib.Omega.{arith}
 use Rattle.asks.specs.Answers.{replyOf}
 use Rattle.earliest.specs.Steps.{startOf}
-use Rattle.earliest.proofs.Finding.{asked-15, asked-refused, asked-reply, lawful, fit-range, unbroken-at, unbroken-none}
+use Rattle.work_starts.proofs.Finding.{asked-15, asked-refused, asked-reply, lawful, fit-range, unbroken-at, unbroken-none}
 use Rattle.asks.proofs.earliest_fit.Statement.{statement}
 use Rattle.asks.proofs.earliest_fit.Tie as tie
 

@@ -3,7 +3,7 @@ use mathlib.Core.Path.{_≡_, refl, sym, _∙_}
 use Prim.Native.Nat.{_-_}
 use native.Mathlib.Omega.{arith}
 use Rattle.earliest.specs.Steps.{startOf}
-use Rattle.earliest.proofs.Finding.{fit-above}
+use Rattle.work_starts.proofs.Finding.{fit-above}
 use Rattle.earliest.proofs.earliest_fit.Statement.{statement}
 use Rattle.earliest.proofs.earliest_fit.Tie as tie
 

@@ -10,7 +10,7 @@ use native.Mathlib.Omega.{arith}
 use borrow.Author.Needs.{needs}
 use lib.ListN.{length, take, length-map}
 use Rattle.scheduler.specs.Fitting.{greatestSetup}
-use Rattle.entries.proofs.Joining.{greatest-next}
+use Rattle.entries.proofs.Greatest.{greatest-next}
 
 abbrev Inv-loop : tie.InvT-loop
 Inv-loop e n most₀ i₀ most i = (n ≤ 24) × (i ≤ n) × (length (e .entries) ≡ 24) × (most ≡ greatestSetup (take i (e .entries)))
@@ -18,28 +18,22 @@ Inv-loop e n most₀ i₀ most i = (n ≤ 24) × (i ≤ n) × (length (e .entrie
 abbrev μ-loop : tie.MeasureT-loop
 μ-loop e n most₀ i₀ most i = n - i
 
--- src/lib.rt:151:5
 loop-holds : tie.Need-loop-holds Inv-loop μ-loop
 unfolding greatestSetup
 loop-holds c = (c .pre, omega arith, simp length-map at (c .good .0 .1 .1 .0 .1 .0 .1), refl)
 
--- src/lib.rt:152:17
 mul-x : tie.Need-mul-x Inv-loop μ-loop
 mul-x c = search needs
 
--- src/lib.rt:152:17
 element-copy-out-x : tie.Need-element-copy-out-x Inv-loop μ-loop
 element-copy-out-x c = search needs
 
--- src/lib.rt:156:9
 add-i : tie.Need-add-i Inv-loop μ-loop
 add-i c = search needs
 
--- src/lib.rt:151:5
 loop-less : tie.Need-loop-less Inv-loop μ-loop
 loop-less c = search needs
 
--- src/lib.rt:151:5
 loop-again : tie.Need-loop-again Inv-loop μ-loop
 loop-again c =
     let v = c .before .before .before .before .loop .inv in
@@ -47,7 +41,6 @@ loop-again c =
     let w = greatest-next (c .before .before .before .before .before .args .t1 .entries) (c .before .before .before .before .loop .i) (omega (arith, v .2, v .0)) in
     (v .0, omega arith, v .2, ⊎-elim (λ w1. omega (arith, v .3, w)) (λ w1. omega (arith, v .3, w)) (c .if1 .came))
 
--- src/lib.rt:144:1
 returns : tie.Need-returns Inv-loop μ-loop
 returns c =
     let v = c .before .loop .inv in

@@ -12,7 +12,8 @@ use borrow.Author.Needs.{needs}
 use lib.ListN.{length, getD, length-set}
 use Rattle.scheduler.specs.Holds.{noHold}
 use Rattle.scheduler.specs.Arrays.{filled-next}
-use Rattle.entries.specs.Parts.{noEntry, setupAt}
+use Rattle.joining.specs.Cells.{noEntry}
+use Rattle.entries.specs.Parts.{setupAt}
 use mathlib.Core.Logic.{⊎-elim}
 use Rattle.entries.proofs.Parting.{entry-kept, kept-true, kept-false}
 
@@ -23,55 +24,42 @@ Inv-loop count own held numbers fixed setups e₀ i₀ e i = (i ≤ count) × (l
 abbrev μ-loop : tie.MeasureT-loop
 μ-loop count own held numbers fixed setups e₀ i₀ e i = count - i
 
--- src/lib.rt:127:17
 no-entries-requires : tie.Need-no-entries-requires Inv-loop μ-loop
 no-entries-requires c κs = search needs
 
--- src/lib.rt:129:5
 loop-holds : tie.Need-loop-holds Inv-loop μ-loop
 loop-holds c = (omega arith, ap length (c .no-entries .ensures .1), λ k l. absurd (omega arith))
 
--- src/lib.rt:130:17
 mul-h : tie.Need-mul-h Inv-loop μ-loop
 mul-h c = search needs
 
--- src/lib.rt:130:17
 array-copy-out-h : tie.Need-array-copy-out-h Inv-loop μ-loop
 array-copy-out-h c = search needs
 
--- src/lib.rt:131:24
 array-read-if1 : tie.Need-array-read-if1 Inv-loop μ-loop
 array-read-if1 c = search needs
 
--- src/lib.rt:131:35
 mul-setup : tie.Need-mul-setup Inv-loop μ-loop
 mul-setup c = search needs
 
--- src/lib.rt:131:35
 array-read-setup : tie.Need-array-read-setup Inv-loop μ-loop
 array-read-setup c = search needs
 
--- src/lib.rt:133:21
 array-read-t29 : tie.Need-array-read-t29 Inv-loop μ-loop
 array-read-t29 c = search needs
 
--- src/lib.rt:132:9
 mul-t15 : tie.Need-mul-t15 Inv-loop μ-loop
 mul-t15 c = search needs
 
--- src/lib.rt:132:9
 element-set-from-e : tie.Need-element-set-from-e Inv-loop μ-loop
 element-set-from-e c = search needs
 
--- src/lib.rt:138:9
 add-i : tie.Need-add-i Inv-loop μ-loop
 add-i c = search needs
 
--- src/lib.rt:129:5
 loop-less : tie.Need-loop-less Inv-loop μ-loop
 loop-less c = search needs
 
--- src/lib.rt:129:5
 loop-again : tie.Need-loop-again Inv-loop μ-loop
 loop-again c =
     let v = c .before .before .before .loop .inv in
@@ -80,7 +68,6 @@ loop-again c =
     let i = c .before .before .before .loop .i in
     (omega arith, length-set (c .before .before .before .loop .e .entries) i _ ∙ v .1, filled-next (setupAt (a .p) (a .t2) (a .own)) (c .before .before .before .loop .e .entries) i _ noEntry (omega (arith, v .1, c .before .before .before .before .before .before .before .before .pre)) (v .2) (entry-kept (a .p) (a .t2) (a .own) i _ (⊎-elim (λ w. kept-true _ _ _ _ (w .0 .taken) (w .1)) (λ w. kept-false _ _ _ _ (w .0 .left) (w .1)) (c .if1 .came))))
 
--- src/lib.rt:120:1
 returns : tie.Need-returns Inv-loop μ-loop
 returns c =
     let v = c .before .loop .inv in

@@ -17,7 +17,8 @@ use Rattle.scheduler.specs.Lists.{Each, each-end}
 use Rattle.scheduler.specs.Arrays.{filled-next}
 use Rattle.plans.specs.declared.Plan.{Plan}
 use Rattle.plans.specs.Plans.{noPlan, planWith}
-use Rattle.entries.specs.Parts.{Small, Taken}
+use Rattle.joining.specs.Cells.{Small}
+use Rattle.entries.specs.Parts.{Taken}
 use Rattle.entries.proofs.Parting.{setup-kept, kept-next, companions-next, plan-companions}
 
 abbrev Inv-loop : tie.InvT-loop

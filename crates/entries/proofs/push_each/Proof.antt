@@ -12,7 +12,7 @@ use lib.ListN.{length, take, length-set}
 use Rattle.scheduler.specs.Arrays.{pushed-next}
 use mathlib.Core.Path.{subst}
 use Rattle.scheduler.specs.Lists.{Each, each-append}
-use Rattle.entries.specs.Parts.{Small}
+use Rattle.joining.specs.Cells.{Small}
 use Rattle.scheduler.specs.Arrays.{each-cells}
 
 abbrev Inv-loop : tie.InvT-loop
@@ -21,33 +21,26 @@ Inv-loop count more numbers₀ n i₀ numbers i = (i ≤ count) × (length numbe
 abbrev μ-loop : tie.MeasureT-loop
 μ-loop count more numbers₀ n i₀ numbers i = count - i
 
--- src/lib.rt:75:5
 loop-holds : tie.Need-loop-holds Inv-loop μ-loop
 loop-holds c =
     let z : c .before .args .list .len + 0 ≡ c .before .args .list .len = omega arith in
     (omega arith, search needs, search needs, rw z (sym (append-nil (take (c .before .args .list .len) (c .before .args .list .numbers)))))
 
--- src/lib.rt:76:26
 array-read-numbers : tie.Need-array-read-numbers Inv-loop μ-loop
 array-read-numbers c = search needs
 
--- src/lib.rt:76:17
 add-numbers : tie.Need-add-numbers Inv-loop μ-loop
 add-numbers c = search needs
 
--- src/lib.rt:76:9
 array-write-numbers : tie.Need-array-write-numbers Inv-loop μ-loop
 array-write-numbers c = search needs
 
--- src/lib.rt:77:9
 add-i : tie.Need-add-i Inv-loop μ-loop
 add-i c = search needs
 
--- src/lib.rt:75:5
 loop-less : tie.Need-loop-less Inv-loop μ-loop
 loop-less c = search needs
 
--- src/lib.rt:75:5
 loop-again : tie.Need-loop-again Inv-loop μ-loop
 loop-again c =
     let v = c .before .loop .inv in
@@ -56,11 +49,9 @@ loop-again c =
     let q = c .before .before .before .pre in
     (omega arith, length-set (c .before .loop .numbers) _ _ ∙ v .1, v .2, pushed-next (c .before .loop .numbers) (a .t2) (take (a .list .len) (a .list .numbers)) (a .list .len) (c .before .loop .i) 0 (omega (arith, v .1)) (omega (arith, v .2)) (v .3))
 
--- src/lib.rt:81:14
 add-t16 : tie.Need-add-t16 Inv-loop μ-loop
 add-t16 c = search needs
 
--- src/lib.rt:68:1
 returns : tie.Need-returns Inv-loop μ-loop
 returns c =
     let v = c .before .loop .inv in

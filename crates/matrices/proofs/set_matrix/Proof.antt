@@ -1,10 +1,12 @@
 -- `matrices::set_matrix` meets its contract.
 use borrow.Author.Needs.{needs}
 use borrow.Author.Tests.{not-true, not-false}
-use mathlib.Core.Path.{refl, sym, _∙_}
+use mathlib.Core.Path.{_≡_, refl, sym, ap, _∙_}
+use mathlib.Core.Bool.{true, false}
 use native.Mathlib.Omega.{arith}
 use mir.Syntax.{w64}
 use mir.ValLaws.{toZ-ofZ}
+use Rattle.board.specs.Valid.{durationRight}
 use Rattle.resource_numbers.proofs.Finding.{found-below, entry-at}
 use Rattle.matrices.proofs.Replying.{matrix-refused, matrix-wrong, matrix-taken}
 use Rattle.matrices.proofs.set_matrix.Statement.{statement}
@@ -35,7 +37,7 @@ returns-3 c =
     let back2 = toZ-ofZ w64 (c .before .before .before .before .before .before .before .args .initial) (c .before .before .before .before .before .before .before .fits .initial) in
     let f = entry-at _ _ _ (c .before .before .before .before .before .before .entry-for .ensures) (c .before .before .before .before .if1 .left) in
     let p = sym (rw back at (c .before .before .before .duration-right .ensures)) ∙ not-false _ (c .before .before .if2 .left) in
-    let r = sym (rw back2 at (c .before .duration-right2 .ensures)) ∙ not-true _ (c .if3 .taken) in
+    let r : durationRight (c .before .before .before .before .before .before .before .args .initial) ≡ false = sym (c .before .duration-right2 .ensures ∙ ap durationRight back2) ∙ not-true _ (c .if3 .taken) in
     matrix-wrong _ _ _ _ _ (f .0) (f .1) (rw (p, r) refl)
 
 new-matrix-requires : tie.Need-new-matrix-requires
@@ -67,7 +69,7 @@ returns-4 c =
     let back2 = toZ-ofZ w64 (c .before .before .before .before .before .before .before .before .before .args .initial) (c .before .before .before .before .before .before .before .before .before .fits .initial) in
     let f = entry-at _ _ _ (c .before .before .before .before .before .before .before .before .entry-for .ensures) (c .before .before .before .before .before .before .if1 .left) in
     let p = sym (rw back at (c .before .before .before .before .before .duration-right .ensures)) ∙ not-false _ (c .before .before .before .before .if2 .left) in
-    let r = sym (rw back2 at (c .before .before .before .duration-right2 .ensures)) ∙ not-false _ (c .before .before .if3 .left) in
+    let r : durationRight (c .before .before .before .before .before .before .before .before .before .args .initial) ≡ true = sym (c .before .before .before .duration-right2 .ensures ∙ ap durationRight back2) ∙ not-false _ (c .before .before .if3 .left) in
     matrix-taken _ _ _ _ _ _ (f .0) (f .1) p r (rw (back, back2) at (c .before .new-matrix .ensures))
 
 pub set-matrix-spec : {M : Type 1} → statement M

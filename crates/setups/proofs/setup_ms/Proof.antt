@@ -1,13 +1,14 @@
 -- `setups::setup_ms` meets its contract.
 use borrow.Author.Needs.{needs}
 use borrow.Author.Tests.{not-true, not-false}
-use mathlib.Core.Path.{_∙_}
+use mathlib.Core.Path.{_≡_, ap, _∙_}
 use Prim.Native.Nat.{_+_, _*_}
 use native.Mathlib.Omega.{arith}
-use lib.IntN.{pos}
+use lib.IntN.{ℤ, pos}
 use lib.ListN.{getD}
 use mir.Syntax.{w64}
 use mir.ValLaws.{toZ-ofZ}
+use Rattle.board.specs.Setups.{entryOr}
 use Rattle.board.proofs.Setting.{last-small, setup-own, setup-first, setup-equal, setup-other}
 use Rattle.setups.proofs.setup_ms.Statement.{statement}
 use Rattle.setups.proofs.setup_ms.Tie as tie
@@ -68,7 +69,7 @@ returns-3 c =
     let p = not-false _ (c .before .before .before .before .before .before .if1 .left) in
     let back = toZ-ofZ w64 (getD (c .before .before .before .before .before .before .before .args .t1 .initials) (c .before .before .before .before .before .before .before .args .category) (pos 0)) (record { sfits = c .before .before .before .entry .given }) in
     let back2 = toZ-ofZ w64 (c .before .before .before .before .before .before .before .args .t1 .initial) (record { sfits = c .before .before .struct-told .given .1 .1 .0 .1 }) in
-    let e = rw back2 at (c .before .entry-or .ensures) in
+    let e : c .before .entry-or .result ≡ entryOr (c .before .before .before .before .before .before .before .args .t1 .initial) 0 = c .before .entry-or .ensures ∙ ap (λ (z : ℤ). entryOr z 0) back2 in
     (rw back at (c .entry-or2 .ensures)) ∙ rw e (setup-first _ _ _ _ p (c .before .before .before .before .enum-told .given .1))
 
 returns-4 : tie.Need-returns-4

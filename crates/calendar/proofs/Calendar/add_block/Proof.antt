@@ -1,9 +1,10 @@
 -- `calendar::Calendar::add_block` meets its contract.
 use borrow.Author.Needs.{needs}
-use mathlib.Core.Path.{sym, _∙_}
+use mathlib.Core.Path.{sym, ap, _∙_}
 use Prim.Native.Nat.{_-_}
+use Rattle.calendar.specs.Valid.{spansRight}
 use Rattle.calendar.specs.Add.{addBlock}
-use Rattle.calendar.proofs.Adding.{taken, added-refused, added-taken, span-right, valid-join}
+use Rattle.calendar.proofs.Adding.{taken, added-refused, block-taken, span-right, valid-join}
 use Rattle.calendar.proofs.Rules.{windows-right, blocks-right}
 use Rattle.calendar.proofs.Calendar.add_block.Statement.{statement}
 use Rattle.calendar.proofs.Calendar.add_block.Tie as tie
@@ -24,7 +25,7 @@ returns-2 c =
     let z = sym (c .before .before .before .refusal-of .ensures) ∙ c .before .before .if1 .left in
     let t = taken _ _ _ _ z in
     let e = c .before .with-span .ensures in
-    (rw e (added-taken _ _ _ z), λ h. rw e (valid-join _ (windows-right _ h) (span-right _ _ _ (search needs) (search needs) (t .place) (t .long) (t .ends) (blocks-right _ h))))
+    (block-taken _ _ _ _ z e, λ h. valid-join _ (windows-right _ h) (ap spansRight e ∙ span-right _ _ _ (search needs) (search needs) (t .place) (t .long) (t .ends) (blocks-right _ h)))
 
 pub add-block-spec : {M : Type 1} → statement M
 add-block-spec = tie.close (tie.spec refusal-of-requires returns with-span-requires returns-2)

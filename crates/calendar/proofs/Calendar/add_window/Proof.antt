@@ -1,9 +1,10 @@
 -- `calendar::Calendar::add_window` meets its contract.
 use borrow.Author.Needs.{needs}
-use mathlib.Core.Path.{sym, _∙_}
+use mathlib.Core.Path.{sym, ap, _∙_}
 use Prim.Native.Nat.{_-_}
+use Rattle.calendar.specs.Valid.{spansRight}
 use Rattle.calendar.specs.Add.{addWindow}
-use Rattle.calendar.proofs.Adding.{taken, added-refused, added-taken, span-right, valid-join}
+use Rattle.calendar.proofs.Adding.{taken, added-refused, window-taken, span-right, valid-join}
 use Rattle.calendar.proofs.Rules.{windows-right, blocks-right}
 use Rattle.calendar.proofs.Calendar.add_window.Statement.{statement}
 use Rattle.calendar.proofs.Calendar.add_window.Tie as tie
@@ -24,7 +25,7 @@ returns-2 c =
     let z = sym (c .before .before .before .refusal-of .ensures) ∙ c .before .before .if1 .left in
     let t = taken _ _ _ _ z in
     let e = c .before .with-span .ensures in
-    (rw e (added-taken _ _ _ z), λ h. rw e (valid-join _ (span-right _ _ _ (search needs) (search needs) (t .place) (t .long) (t .ends) (windows-right _ h)) (blocks-right _ h)))
+    (window-taken _ _ _ _ z e, λ h. valid-join _ (ap spansRight e ∙ span-right _ _ _ (search needs) (search needs) (t .place) (t .long) (t .ends) (windows-right _ h)) (blocks-right _ h))
 
 pub add-window-spec : {M : Type 1} → statement M
 add-window-spec = tie.close (tie.spec refusal-of-requires returns with-span-requires returns-2)

@@ -1,8 +1,8 @@
--- `entries::is_among` meets its contract. The loop: none of the first i entries has the number.
-use Rattle.entries.proofs.is_among.Statement.{statement}
-use Rattle.entries.proofs.is_among.Tie as tie
-use Rattle.entries.proofs.is_among.Reads as reads
-use Rattle.entries.proofs.is_among.Lts as lts
+-- `joining::is_among` meets its contract. The loop: none of the first i entries has the number.
+use Rattle.joining.proofs.is_among.Statement.{statement}
+use Rattle.joining.proofs.is_among.Tie as tie
+use Rattle.joining.proofs.is_among.Reads as reads
+use Rattle.joining.proofs.is_among.Lts as lts
 use mathlib.Core.Path.{_≡_, refl, sym}
 use mathlib.Core.Bool.{false}
 use mathlib.Core.List.{map}
@@ -11,8 +11,8 @@ use native.Mathlib.Omega.{arith}
 use borrow.Author.Needs.{needs}
 use lib.ListN.{length, take, length-map}
 use Rattle.scheduler.specs.Fitting.{among}
-use Rattle.entries.specs.Parts.{numberIn}
-use Rattle.entries.proofs.Joining.{among-found, among-other}
+use Rattle.joining.specs.Cells.{numberIn}
+use Rattle.joining.proofs.Joining.{among-found, among-other}
 
 abbrev Inv-loop : tie.InvT-loop
 Inv-loop number e n i₀ i = (n ≤ 24) × (i ≤ n) × (length (e .entries) ≡ 24) × (among number (map numberIn (take i (e .entries))) ≡ false)
@@ -20,42 +20,34 @@ Inv-loop number e n i₀ i = (n ≤ 24) × (i ≤ n) × (length (e .entries) ≡
 abbrev μ-loop : tie.MeasureT-loop
 μ-loop number e n i₀ i = n - i
 
--- src/lib.rt:167:5
 loop-holds : tie.Need-loop-holds Inv-loop μ-loop
 unfolding among
 loop-holds c = (c .pre, omega arith, simp length-map at (c .good .0 .1 .1 .0 .1 .0 .1), refl)
 
--- src/lib.rt:168:17
 mul-x : tie.Need-mul-x Inv-loop μ-loop
 mul-x c = search needs
 
--- src/lib.rt:168:17
 element-copy-out-x : tie.Need-element-copy-out-x Inv-loop μ-loop
 element-copy-out-x c = search needs
 
--- src/lib.rt:170:13
 returns : tie.Need-returns Inv-loop μ-loop
 returns c =
     let v = c .before .before .before .before .loop .inv in
     let l = c .before .before .before .loop-test .taken in
     sym (among-found (c .before .before .before .before .before .args .t1 .entries) (c .before .before .before .before .before .args .number) (c .before .before .before .before .loop .i) (omega (arith, v .2, v .0)) (v .3) (c .if1 .taken) (c .before .before .before .before .before .args .t1 .count) l)
 
--- src/lib.rt:172:9
 add-i : tie.Need-add-i Inv-loop μ-loop
 add-i c = search needs
 
--- src/lib.rt:167:5
 loop-less : tie.Need-loop-less Inv-loop μ-loop
 loop-less c = search needs
 
--- src/lib.rt:167:5
 loop-again : tie.Need-loop-again Inv-loop μ-loop
 loop-again c =
     let v = c .before .before .before .before .loop .inv in
     let l = c .before .before .before .loop-test .taken in
     (v .0, omega arith, v .2, among-other (c .before .before .before .before .before .args .t1 .entries) (c .before .before .before .before .before .args .number) (c .before .before .before .before .loop .i) (omega (arith, v .2, v .0)) (v .3) (c .if1 .left))
 
--- src/lib.rt:161:1
 returns-2 : tie.Need-returns-2 Inv-loop μ-loop
 returns-2 c =
     let v = c .before .loop .inv in

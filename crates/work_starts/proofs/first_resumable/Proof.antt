@@ -1,4 +1,4 @@
--- `earliest::first_resumable` meets its contract. The loop: the work starts at none of the first i candidates (Trying).
+-- `work_starts::first_resumable` meets its contract. The loop: the work starts at none of the first i candidates (Trying).
 use borrow.Author.Needs.{needs}
 use borrow.Author.Count.{below-none, below-more}
 use mathlib.Core.Path.{_≡_, sym, ap, _∙_}
@@ -11,9 +11,9 @@ use Rattle.work_ends.specs.Layout.{foundOf}
 use Rattle.timeline.specs.Bookings.{bookingsTo}
 use Rattle.timeline.proofs.Rules.{rules}
 use Rattle.timeline.proofs.Columns.{columns}
-use Rattle.earliest.proofs.Trying.{freeUntil, endOver, until-end, until-none, candidate-range, start-listed, start-unlisted}
-use Rattle.earliest.proofs.first_resumable.Statement.{statement}
-use Rattle.earliest.proofs.first_resumable.Tie as tie
+use Rattle.work_starts.proofs.Trying.{freeUntil, endOver, until-end, until-none, candidate-range, start-listed, start-unlisted}
+use Rattle.work_starts.proofs.first_resumable.Statement.{statement}
+use Rattle.work_starts.proofs.first_resumable.Tie as tie
 
 abbrev Inv-loop : tie.InvT-loop
 Inv-loop from work units starts ends booked latest len room edges m candidates n i₀ i =

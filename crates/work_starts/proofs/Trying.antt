@@ -27,7 +27,7 @@ use Rattle.timeline.proofs.Loading.{free-room}
 use Rattle.timeline.proofs.Searching.{Sought, sought-start, sought-on}
 use Rattle.candidates.proofs.Listing.{first-is, next-listed, next-none}
 use Rattle.timeline.proofs.Stepping.{Still, fits-at-back, starts-at-back, next-still}
-use Rattle.earliest.proofs.Finding.{fit-found, fit-none, start-found, start-none, resumed-at, resumed-none}
+use Rattle.work_starts.proofs.Finding.{fit-found, fit-none, start-found, start-none, resumed-at, resumed-none}
 
 -- the span fits at s, where the bookings leave room
 unfoldable pub fitsOver : Calendar → List Booking → ℕ → ℕ → ℕ → Bool

@@ -1,9 +1,9 @@
--- `entries::join_each` meets its contract. The loop: the first i companions have joined, each once.
-use Rattle.entries.proofs.join_each.Statement.{statement}
-use Rattle.entries.proofs.join_each.Tie as tie
-use Rattle.entries.proofs.join_each.Reads as reads
-use Rattle.entries.proofs.join_each.Lts as lts
-use Rattle.entries.proofs.is_among.Reads as is-among-reads
+-- `joining::join_each` meets its contract. The loop: the first i companions have joined, each once.
+use Rattle.joining.proofs.join_each.Statement.{statement}
+use Rattle.joining.proofs.join_each.Tie as tie
+use Rattle.joining.proofs.join_each.Reads as reads
+use Rattle.joining.proofs.join_each.Lts as lts
+use Rattle.joining.proofs.is_among.Reads as is-among-reads
 use mathlib.Core.Path.{_≡_, sym, _∙_}
 use mathlib.Core.List.{[], map}
 use mathlib.Core.Logic.{⊎-elim}
@@ -13,8 +13,8 @@ use borrow.Author.Needs.{needs}
 use borrow.Author.Tests.{not-true, not-false}
 use lib.ListN.{length, take, length-map}
 use Rattle.scheduler.specs.Fitting.{joinEach}
-use Rattle.entries.specs.Parts.{numberIn}
-use Rattle.entries.proofs.Joining.{Joined, joined-none, joined-few, small-at, join-skip, join-on, join-room}
+use Rattle.joining.specs.Cells.{numberIn}
+use Rattle.joining.proofs.Joining.{Joined, joined-none, joined-few, small-at, join-skip, join-on, join-room}
 use Prim.Native.Nat.{_<_}
 
 abbrev Inv-loop : tie.InvT-loop
@@ -25,22 +25,18 @@ Inv-loop list n more₀ i₀ more i =
 abbrev μ-loop : tie.MeasureT-loop
 μ-loop list n more₀ i₀ more i = n - i
 
--- src/lib.rt:185:5
 loop-holds : tie.Need-loop-holds Inv-loop μ-loop
 unfolding joinEach
 loop-holds c = (c .pre .1, omega arith, search needs, joined-none (c .args .e .count) (c .args .e .entries) (c .pre .0) (simp length-map at (c .good .0 .1 .1 .0 .1 .0 .1)))
 
--- src/lib.rt:186:22
 element-copy-out-number : tie.Need-element-copy-out-number Inv-loop μ-loop
 element-copy-out-number c = search needs
 
--- src/lib.rt:187:13
 is-among-requires : tie.Need-is-among-requires Inv-loop μ-loop
 is-among-requires c κs =
     let v = c .before .before .loop .inv in
     joined-few _ _ _ _ _ (v .3)
 
--- src/lib.rt:189:13
 mul-t16 : tie.Need-mul-t16 Inv-loop μ-loop
 mul-t16 c =
     let a = c .before .before .before .before .before .args in
@@ -53,7 +49,6 @@ mul-t16 c =
     let r = join-room _ _ (a .t2 .numbers) i _ _ (omega (arith, v .2, q .1)) (v .3) (sym e ∙ not-true _ (c .if1 .taken)) small in
     search needs
 
--- src/lib.rt:189:13
 element-set-from-more : tie.Need-element-set-from-more Inv-loop μ-loop
 element-set-from-more c =
     let a = c .before .before .before .before .before .args in
@@ -66,7 +61,6 @@ element-set-from-more c =
     let r = join-room _ _ (a .t2 .numbers) i _ _ (omega (arith, v .2, q .1)) (v .3) (sym e ∙ not-true _ (c .if1 .taken)) small in
     r
 
--- src/lib.rt:195:26
 add-more : tie.Need-add-more Inv-loop μ-loop
 add-more c =
     let a = c .before .before .before .before .before .args in
@@ -79,15 +73,12 @@ add-more c =
     let r = join-room _ _ (a .t2 .numbers) i _ _ (omega (arith, v .2, q .1)) (v .3) (sym e ∙ not-true _ (c .if1 .taken)) small in
     search needs
 
--- src/lib.rt:197:9
 add-i : tie.Need-add-i Inv-loop μ-loop
 add-i c = search needs
 
--- src/lib.rt:185:5
 loop-less : tie.Need-loop-less Inv-loop μ-loop
 loop-less c = search needs
 
--- src/lib.rt:185:5
 loop-again : tie.Need-loop-again Inv-loop μ-loop
 loop-again c =
     let a = c .before .before .before .before .before .args in
@@ -107,7 +98,6 @@ loop-again c =
           (c .if1 .came),
     )
 
--- src/lib.rt:178:1
 returns : tie.Need-returns Inv-loop μ-loop
 returns c =
     let a = c .before .before .args in

@@ -1,8 +1,8 @@
--- `earliest::earliest_resumable` meets its contract.
+-- `work_starts::earliest_resumable` meets its contract.
 use Rattle.work_ends.specs.Layout.{foundOf}
-use Rattle.earliest.proofs.Finding.{start-above, resumed-none}
-use Rattle.earliest.proofs.earliest_resumable.Statement.{statement}
-use Rattle.earliest.proofs.earliest_resumable.Tie as tie
+use Rattle.work_starts.proofs.Finding.{start-above, resumed-none}
+use Rattle.work_starts.proofs.earliest_resumable.Statement.{statement}
+use Rattle.work_starts.proofs.earliest_resumable.Tie as tie
 
 returns : tie.Need-returns
 unfolding foundOf

@@ -3,7 +3,7 @@ use mathlib.Core.Path.{_≡_, refl, sym, ap, _∙_}
 use mathlib.Core.Bool.{Bool, true, false, _||_, cond, or-false}
 use mathlib.Core.List.{List, [], _∷_, _++_, map, append-assoc, append-nil, map-append, map-map, map-id}
 use mathlib.Core.Logic.{⊎-elim}
-use Prim.Native.Nat.{ℕ, zero, suc, _+_, _-_, _≤_, _<_, max}
+use Prim.Native.Nat.{ℕ, zero, suc, _+_, _-_, _≤_, _<_}
 use native.Mathlib.Omega.{arith}
 use borrow.Author.Tests.{lt-ltb, le-ltb, eq-eqb, ne-eqb}
 use lib.ListN.{length, getD, set, take, drop, length-set, length-append}
@@ -12,11 +12,11 @@ use lib.Dec.{eqb, ltb}
 use Rattle.board.proofs.Facts.{same-side}
 use Rattle.calendar.specs.Basics.{same-or-not}
 use Rattle.scheduler.specs.declared.Entry.{Entry}
-use Rattle.scheduler.specs.Fitting.{greatestSetup, among, joinEach, companionEntry}
+use Rattle.scheduler.specs.Fitting.{among, joinEach, companionEntry}
 use Rattle.scheduler.specs.Events.{among-append}
 use Rattle.scheduler.specs.Lists.{Each}
 use Rattle.scheduler.specs.Tests.{or-right}
-use Rattle.entries.specs.Parts.{noEntry, numberIn, Small}
+use Rattle.joining.specs.Cells.{noEntry, numberIn, Small}
 use Rattle.scheduler.specs.Arrays.{take-next, take-split, each-at}
 
 pub join-last : (held joined cs : List ℕ) (c : ℕ) → joinEach held joined (cs ++ (c ∷ [])) ≡ cond (among c held || among c (joinEach held joined cs)) (joinEach held joined cs) (joinEach held joined cs ++ (c ∷ []))
@@ -100,11 +100,6 @@ module _ (es : List Entry) (n : ℕ) (js : List ℕ) (xs : List Entry) (k : ℕ)
       once = more;
     }
 
-pub greatest-last : (es : List Entry) (e : Entry) → greatestSetup (es ++ (e ∷ [])) ≡ max (greatestSetup es) (e .setup)
-unfolding greatestSetup
-greatest-last [] e = omega arith
-greatest-last (x ∷ es) e = rw (greatest-last es e) (omega arith)
-
 -- one entry more is looked at
 module _ (es : List Entry) (number i : ℕ) (l : i < length es) where
   among-next : among number (map numberIn (take (i + 1) es)) ≡ among number (map numberIn (take i es)) || eqb (getD es i noEntry .number) number
@@ -124,9 +119,6 @@ module _ (es : List Entry) (number i : ℕ) (l : i < length es) where
       ∙ ap (among number) (map-append numberIn (take (i + 1) es) (take (n - (i + 1)) (drop (i + 1) es)))
       ∙ among-append number (map numberIn (take (i + 1) es)) (map numberIn (take (n - (i + 1)) (drop (i + 1) es)))
       ∙ rw (among-next, e, eq-eqb (getD es i noEntry .number) number h) refl
-
-pub greatest-next : (es : List Entry) (i : ℕ) → i < length es → greatestSetup (take (i + 1) es) ≡ max (greatestSetup (take i es)) (getD es i noEntry .setup)
-greatest-next es i l = ap greatestSetup (take-next es i noEntry l) ∙ greatest-last (take i es) (getD es i noEntry)
 
 -- one companion more
 module _ (es : List Entry) (n : ℕ) (cs : List ℕ) (i : ℕ) (xs : List Entry) (k : ℕ) (l : i < length cs) (j : Joined es n (joinEach (map numberIn es) [] (take i cs)) xs k) where

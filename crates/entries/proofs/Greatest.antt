@@ -1,0 +1,18 @@
+-- The greatest setup, one entry more looked at.
+use mathlib.Core.Path.{_≡_, ap, _∙_}
+use mathlib.Core.List.{List, [], _∷_, _++_}
+use Prim.Native.Nat.{ℕ, _+_, _<_, max}
+use native.Mathlib.Omega.{arith}
+use lib.ListN.{length, getD, take}
+use Rattle.scheduler.specs.declared.Entry.{Entry}
+use Rattle.scheduler.specs.Fitting.{greatestSetup}
+use Rattle.scheduler.specs.Arrays.{take-next}
+use Rattle.joining.specs.Cells.{noEntry}
+
+greatest-last : (es : List Entry) (e : Entry) → greatestSetup (es ++ (e ∷ [])) ≡ max (greatestSetup es) (e .setup)
+unfolding greatestSetup
+greatest-last [] e = omega arith
+greatest-last (x ∷ es) e = rw (greatest-last es e) (omega arith)
+
+pub greatest-next : (es : List Entry) (i : ℕ) → i < length es → greatestSetup (take (i + 1) es) ≡ max (greatestSetup (take i es)) (getD es i noEntry .setup)
+greatest-next es i l = ap greatestSetup (take-next es i noEntry l) ∙ greatest-last (take i es) (getD es i noEntry)

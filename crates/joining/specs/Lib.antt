@@ -1,0 +1,2 @@
+-- What is read of the cells.
+pub mod Cells
