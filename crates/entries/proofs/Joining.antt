@@ -9,6 +9,8 @@ use borrow.Author.Tests.{lt-ltb, le-ltb, eq-eqb, ne-eqb}
 use lib.ListN.{length, getD, set, take, drop, length-set, length-append}
 use lib.Seq.{take-suc-set, getD-take, length-take-le}
 use lib.Dec.{eqb, ltb}
+use Rattle.calendar.specs.Search.{greatestOf}
+use Rattle.calendar.specs.Meaning.{greatest-snoc}
 use Rattle.board.proofs.Facts.{same-side}
 use Rattle.calendar.specs.Basics.{same-or-not}
 use Rattle.scheduler.specs.declared.Entry.{Entry}
@@ -101,9 +103,8 @@ module _ (es : List Entry) (n : ℕ) (js : List ℕ) (xs : List Entry) (k : ℕ)
     }
 
 pub greatest-last : (es : List Entry) (e : Entry) → greatestSetup (es ++ (e ∷ [])) ≡ max (greatestSetup es) (e .setup)
-unfolding greatestSetup
-greatest-last [] e = omega arith
-greatest-last (x ∷ es) e = rw (greatest-last es e) (omega arith)
+unfolding greatestSetup greatestOf
+greatest-last es e = ap greatestOf (map-append (λ (e : Entry). e .setup) es (e ∷ [])) ∙ greatest-snoc (map (λ (e : Entry). e .setup) es) (e .setup)
 
 -- one entry more is looked at
 module _ (es : List Entry) (number i : ℕ) (l : i < length es) where
