@@ -2,7 +2,7 @@
 use mathlib.Core.Path.{_≡_, refl, sym, ap, _∙_}
 use mathlib.Core.Bool.{Bool, true, false, not, _&&_, cond}
 use mathlib.Core.Logic.{_⊎_, inl, inr, ⊎-elim}
-use Prim.Native.Nat.{ℕ, zero, suc, _+_, _-_, _≤_, _<_}
+use Prim.Native.Nat.{ℕ, zero, suc, _+_, _-_, _≤_, _<_, max}
 use native.Mathlib.Nat.{eq-or-lt-of-le}
 use native.Mathlib.Omega.{arith}
 use mathlib.Core.List.{List, [], _∷_, _++_}
@@ -13,7 +13,7 @@ use borrow.Author.Tests.{not-true}
 use Rattle.calendar.specs.declared.TimeWindows.{TimeWindows}
 use Rattle.calendar.specs.declared.Calendar.{Calendar}
 use Rattle.calendar.specs.Basics.{and-split, lt-or-ge, same-or-not, not-both}
-use Rattle.calendar.specs.Search.{Found, nothing, at, leastFrom}
+use Rattle.calendar.specs.Search.{Found, nothing, at, leastFrom, greatestOf}
 use Rattle.calendar.specs.Spans.{Span, spanAt, spansFrom, spans, any, holds, meets, contains}
 use Rattle.calendar.specs.Fits.{openFor, fits}
 use Rattle.calendar.specs.Work.{working, joint, endFrom, workEnd, latest, lastChange, jointEnd}
@@ -381,9 +381,15 @@ working-back c x q t =
       blocks = λ k l. ⊎-elim (λ (z : suc x < getD (c .blocks .starts) k 0). inl (omega arith)) (λ (z : getD (c .blocks .ends) k 0 ≤ suc x). inr (omega (arith, q .blocks k l))) (u .blocks k l);
     })
 
+-- one more behind a list
+pub greatest-snoc : (xs : List ℕ) (x : ℕ) → greatestOf (xs ++ (x ∷ [])) ≡ max (greatestOf xs) x
+unfolding greatestOf
+greatest-snoc [] x = omega arith
+greatest-snoc (y ∷ xs) x = rw (greatest-snoc xs x) (omega arith)
+
 -- From its latest end on a list of spans contains no instant ..
 past-all : (l : List Span) (q : ℕ) → latest l ≤ q → any (contains q) l ≡ false
-unfolding latest any
+unfolding latest any greatestOf
 past-all [] q h = refl
 past-all (w ∷ l) q h = rw (contains-no q w (λ a b. omega arith), past-all l q (omega arith)) refl
 
@@ -393,7 +399,7 @@ open-past [] q r a b = refl
 open-past (w ∷ l) q r a b = past-all (w ∷ l) q a ∙ sym (past-all (w ∷ l) r b)
 
 joint-past : (cs : List Calendar) (q r : ℕ) → lastChange cs ≤ q → lastChange cs ≤ r → joint cs q ≡ joint cs r
-unfolding joint lastChange working
+unfolding joint lastChange working greatestOf
 joint-past [] q r a b = refl
 joint-past (c ∷ cs) q r a b =
     rw (open-past (spans (c .windows)) q r (omega arith) (omega arith), past-all (spans (c .blocks)) q (omega arith), past-all (spans (c .blocks)) r (omega arith), joint-past cs q r (omega arith) (omega arith)) refl

@@ -3,7 +3,7 @@ use mathlib.Core.Path.{_≡_, refl}
 use mathlib.Core.List.{[], _∷_}
 use Prim.Native.Nat.{_+_}
 use Rattle.calendar.specs.declared.Calendar.{Calendar}
-use Rattle.calendar.specs.Search.{nothing, at, leastFrom}
+use Rattle.calendar.specs.Search.{nothing, at, leastFrom, greatestOf}
 use Rattle.calendar.specs.Spans.{spansFrom, any, holds, meets, contains}
 use Rattle.calendar.specs.Fits.{openFor, fits}
 use Rattle.calendar.specs.Work.{working, joint, endFrom, workEnd, latest, lastChange, jointEnd}
@@ -24,5 +24,5 @@ pub runs :
     ∷ jointEnd (touching ∷ broken ∷ []) 5 16
     ∷ [])
     ≡ nothing ∷ at 60 ∷ nothing ∷ at 20 ∷ nothing ∷ []
-unfolding leastFrom spansFrom any holds meets contains openFor fits working joint endFrom workEnd latest lastChange
+unfolding leastFrom spansFrom any holds meets contains openFor fits working joint endFrom workEnd latest lastChange greatestOf
 runs = refl

@@ -1,6 +1,7 @@
--- The least instant at which a test passes: the one search that every 'least' of document 01 is.
-use Prim.Native.Nat.{ℕ, zero, suc}
+-- The least instant at which a test passes: the one search that every 'least' of document 01 is; and the greatest of a list.
+use Prim.Native.Nat.{ℕ, zero, suc, max}
 use mathlib.Core.Bool.{Bool, true, false}
+use mathlib.Core.List.{List, [], _∷_}
 
 -- an instant, or 01's 'none' and 'nothing'
 pub data Found : Type 0 where
@@ -21,3 +22,8 @@ when (at x) = x
 unfoldable pub leastFrom : (ℕ → Bool) → ℕ → ℕ → Found
 leastFrom P from zero = nothing
 leastFrom P from (suc n) = elim (P from) [ true ↦ at from | false ↦ leastFrom P (suc from) n ]
+
+-- the greatest of a list, 0 where it is empty
+unfoldable pub greatestOf : List ℕ → ℕ
+greatestOf [] = 0
+greatestOf (x ∷ xs) = max x (greatestOf xs)

@@ -1,9 +1,9 @@
 -- 01, 'Calendar': working time, joint working time, and when resumable work ends.
 use Prim.Native.Nat.{ℕ, zero, suc, _+_, _-_, max}
 use mathlib.Core.Bool.{Bool, true, false, not, _&&_}
-use mathlib.Core.List.{List, [], _∷_}
+use mathlib.Core.List.{List, [], _∷_, map}
 use Rattle.calendar.specs.declared.Calendar.{Calendar}
-use Rattle.calendar.specs.Search.{Found, nothing, at}
+use Rattle.calendar.specs.Search.{Found, nothing, at, greatestOf}
 use Rattle.calendar.specs.Spans.{Span, spans, any, contains}
 use Rattle.calendar.specs.Fits.{openFor}
 
@@ -29,13 +29,11 @@ workEnd last W p w = elim (W p) [ true ↦ endFrom W p w (last - p + w) | false 
 
 -- the latest end of a list of spans, 0 where there are none
 unfoldable pub latest : List Span → ℕ
-latest [] = 0
-latest (w ∷ l) = max (w .end) (latest l)
+latest ws = greatestOf (map (λ w. w .end) ws)
 
--- from here on none of the calendars changes any more
+-- from here on none of the calendars changes any more: the latest end of a window or a block
 unfoldable pub lastChange : List Calendar → ℕ
-lastChange [] = 0
-lastChange (c ∷ cs) = max (max (latest (spans (c .windows))) (latest (spans (c .blocks)))) (lastChange cs)
+lastChange cs = greatestOf (map (λ c. max (latest (spans (c .windows))) (latest (spans (c .blocks)))) cs)
 
 -- `work_end` over the joint working time of some calendars
 abbrev pub jointEnd : List Calendar → ℕ → ℕ → Found

@@ -10,9 +10,8 @@ use Rattle.scheduler.specs.Arrays.{take-next}
 use Rattle.joining.specs.Cells.{noEntry}
 
 greatest-last : (es : List Entry) (e : Entry) → greatestSetup (es ++ (e ∷ [])) ≡ max (greatestSetup es) (e .setup)
-unfolding greatestSetup
-greatest-last [] e = omega arith
-greatest-last (x ∷ es) e = rw (greatest-last es e) (omega arith)
+unfolding greatestSetup greatestOf
+greatest-last es e = ap greatestOf (map-append (λ (e : Entry). e .setup) es (e ∷ [])) ∙ greatest-snoc (map (λ (e : Entry). e .setup) es) (e .setup)
 
 pub greatest-next : (es : List Entry) (i : ℕ) → i < length es → greatestSetup (take (i + 1) es) ≡ max (greatestSetup (take i es)) (getD es i noEntry .setup)
 greatest-next es i l = ap greatestSetup (take-next es i noEntry l) ∙ greatest-last (take i es) (getD es i noEntry)

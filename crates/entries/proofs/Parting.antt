@@ -7,6 +7,7 @@ use native.Mathlib.Omega.{arith}
 use lib.ListN.{length, getD, set, take}
 use lib.Seq.{getD-set-same, getD-set-other, length-take-le}
 use mathlib.Core.Logic.{⊎-elim}
+use Rattle.calendar.specs.Search.{greatestOf}
 use Rattle.calendar.specs.Basics.{same-or-not}
 use Rattle.activity.specs.declared.ActivityDuration.{ActivityDuration}
 use Rattle.activity.specs.declared.Activity.{Activity}
@@ -98,7 +99,7 @@ module _ (b : Board) (hs : List Hold) where
         ∙ sym (map-map (heldEntry category own) (heldOf b) (take n hs))
 
 greatest-most : (m : ℕ) (es : List Entry) → Each (λ e. e .setup ≤ m) es → greatestSetup es ≤ m
-unfolding greatestSetup
+unfolding greatestSetup greatestOf
 greatest-most m [] each-end = omega arith
 greatest-most m (e ∷ es) (each-on p h) = omega (arith, p, greatest-most m es h)
 

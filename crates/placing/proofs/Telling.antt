@@ -11,7 +11,7 @@ use Rattle.calendar.specs.Basics.{unrefused}
 use Rattle.calendar.specs.declared.Calendar.{Calendar}
 use Rattle.calendar.specs.Valid as calendar
 use Rattle.calendar.specs.Meaning.{least-same}
-use Rattle.calendar.specs.Search.{Found, nothing, at, leastFrom}
+use Rattle.calendar.specs.Search.{Found, nothing, at, leastFrom, greatestOf}
 use Rattle.calendar.specs.Work.{lastChange, jointEnd}
 use Rattle.timeline.specs.Ask as asking
 use Rattle.timeline.specs.Bookings.{latestEnd}
@@ -36,7 +36,7 @@ use Rattle.placing.specs.declared.Placement.the-variants.{Placed, Chosen
 
 -- nothing changes on the order's own calendar but its own edges
 own-last : (own : Calendar) (xs : List Share) → lastOf (ownShare own ∷ xs) ≡ lastAll xs own
-unfolding lastOf lastAll lastEvent diary latestEnd
+unfolding lastOf lastAll lastEvent diary latestEnd greatestOf
 own-last own xs = rw (bookings-diary 1 own []) (go (lastChange (own ∷ [])) (lastOf xs))
   where
     go : (m n : ℕ) → max (max m 0) n ≡ max m n

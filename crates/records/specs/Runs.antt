@@ -4,7 +4,7 @@ use mathlib.Core.List.{List, [], _∷_, _++_}
 use Prim.Native.Nat.{ℕ}
 use lib.ListN.{replicate}
 use Rattle.calendar.specs.Every.{everyFrom}
-use Rattle.calendar.specs.Search.{leastFrom}
+use Rattle.calendar.specs.Search.{leastFrom, greatestOf}
 use Rattle.calendar.specs.Spans.{spansFrom, any, holds, meets}
 use Rattle.calendar.specs.Valid as calendar
 use Rattle.calendar.specs.Fits.{openFor, fits}
@@ -33,5 +33,5 @@ pub example : slot
     ((4 ∷ (low 7 100 ++ (low 7 200 ++ low 3 1)))
     ++ ((5 ∷ (low 7 50 ++ (low 7 50 ++ low 3 1))) ++ (5 ∷ (low 7 50 ++ (low 7 51 ++ low 3 1)))))
     ≡ 102 ∷ 105 ∷ 116 ∷ 32 ∷ 53 ∷ 48 ∷ 32 ∷ 49 ∷ 48 ∷ 48 ∷ 10 ∷ 102 ∷ 105 ∷ 116 ∷ 32 ∷ 50 ∷ 48 ∷ 48 ∷ 32 ∷ 50 ∷ 53 ∷ 49 ∷ 10 ∷ []
-unfolding leastFrom spansFrom any holds meets calendar.cellRight everyFrom calendar.spansRight calendar.valid openFor fits latest lastChange empty bookingsTo total latestEnd before cellRight cellEmpty valid overlaps onAt load free fitsAt lastEvent earliestFit capacityOf insertBooking latestEnds diary bookRefusal taken bookReply unbroken askRefusal refusedOr asked little decimalTo textOf bodyLen books asks recordDoes turnReply goOn streamFrom slot
+unfolding leastFrom spansFrom any holds meets calendar.cellRight everyFrom calendar.spansRight calendar.valid openFor fits latest lastChange empty bookingsTo total latestEnd before cellRight cellEmpty valid overlaps onAt load free fitsAt lastEvent earliestFit capacityOf insertBooking latestEnds diary bookRefusal taken bookReply unbroken askRefusal refusedOr asked little decimalTo textOf bodyLen books asks recordDoes turnReply goOn streamFrom slot greatestOf
 example = refl

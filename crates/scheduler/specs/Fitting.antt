@@ -4,7 +4,7 @@ use mathlib.Core.Bool.{Bool, true, false, _&&_, _||_, cond}
 use mathlib.Core.List.{List, [], _∷_, _++_, map}
 use lib.Dec.{eqb}
 use Rattle.calendar.specs.declared.Calendar.{Calendar}
-use Rattle.calendar.specs.Search.{Found, nothing, at, leastFrom}
+use Rattle.calendar.specs.Search.{Found, nothing, at, leastFrom, greatestOf}
 use Rattle.calendar.specs.Fits.{fits}
 use Rattle.calendar.specs.Work.{lastChange, jointEnd}
 use Rattle.timeline.specs.Earliest.{freeOn}
@@ -34,8 +34,7 @@ abbrev pub heldEntries : ℕ → ℕ → List Held → List Entry
 heldEntries category setup hs = map (heldEntry category setup) hs
 
 unfoldable pub greatestSetup : List Entry → ℕ
-greatestSetup [] = 0
-greatestSetup (e ∷ es) = max (e .setup) (greatestSetup es)
+greatestSetup es = greatestOf (map (λ e. e .setup) es)
 
 unfoldable pub among : ℕ → List ℕ → Bool
 among n [] = false

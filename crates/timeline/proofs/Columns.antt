@@ -1,14 +1,16 @@
 -- The columns of a diary, lent: what its rules say of them, and sums over the bookings that a test picks, from a cell on and up to a
 -- cell from which none is picked.
-use mathlib.Core.Path.{_≡_, refl, sym, _∙_}
+use mathlib.Core.Path.{_≡_, refl, sym, _∙_, ap}
 use mathlib.Core.Bool.{Bool, true, false, cond}
-use mathlib.Core.List.{List, [], _∷_, _++_}
+use mathlib.Core.List.{List, [], _∷_, _++_, map, map-append}
 use mathlib.Core.Logic.{_⊎_, ⊎-elim}
 use Prim.Native.Nat.{ℕ, zero, suc, _+_, _-_, _*_, _≤_, _<_, max}
 use native.Mathlib.Omega.{arith}
 use lib.ListN.{getD}
 use lib.Dec.{ltb}
 use borrow.Author.Tests.{lt-ltb, ltb-true}
+use Rattle.calendar.specs.Search.{greatestOf}
+use Rattle.calendar.specs.Meaning.{greatest-snoc}
 use Rattle.calendar.specs.Basics.{no-way, and-split}
 use Rattle.work_ends.specs.Layout.{Rising}
 use Rattle.timeline.specs.declared.ResourceTimeline.{ResourceTimeline}
@@ -59,12 +61,11 @@ from-cell ss es us ls n i s c b = record {
 
 -- the latest end of the first n bookings is that of the last of them
 latest-snoc : (bs : List Booking) (b : Booking) → latestEnd (bs ++ (b ∷ [])) ≡ max (latestEnd bs) (b .end)
-unfolding latestEnd
-latest-snoc [] b = omega arith
-latest-snoc (a ∷ bs) b = rw (latest-snoc bs b) (omega arith)
+unfolding latestEnd greatestOf
+latest-snoc bs b = ap greatestOf (map-append (λ (b : Booking). b .end) bs (b ∷ [])) ∙ greatest-snoc (map (λ (b : Booking). b .end) bs) (b .end)
 
 latest-to : (t : ResourceTimeline) → Rules t → (n : ℕ) → n ≤ t .len → latestEnd (bookingsTo (t .starts) (t .ends) (t .units) n) ≡ before (t .latest) n
-unfolding bookingsTo latestEnd before
+unfolding bookingsTo latestEnd before greatestOf
 latest-to t rs zero h = refl
 latest-to t rs (suc n) h =
     let e = latest-snoc (bookingsTo (t .starts) (t .ends) (t .units) n) (bookingAt (t .starts) (t .ends) (t .units) n) in

@@ -9,7 +9,7 @@ use lib.Dec.{eqb}
 use borrow.Author.Tests.{eqb-true, eq-eqb}
 use Rattle.calendar.specs.declared.Calendar.{Calendar}
 use Rattle.calendar.specs.Basics.{and-split, no-way, not-both}
-use Rattle.calendar.specs.Search.{nothing, at, leastFrom}
+use Rattle.calendar.specs.Search.{nothing, at, leastFrom, greatestOf}
 use Rattle.calendar.specs.Fits.{fits}
 use Rattle.calendar.specs.Work.{joint, workEnd, lastChange, jointEnd}
 use Rattle.calendar.specs.Meaning.{least-found, fits-is, working-is}
@@ -129,7 +129,7 @@ load-more (b ∷ bs) cs s e p f =
 
 -- more bookings end no sooner
 end-among : (b : Booking) (xs : List Booking) → 1 ≤ times b xs → b .end ≤ latestEnd xs
-unfolding times latestEnd
+unfolding times latestEnd greatestOf
 end-among b [] h = absurd (omega arith)
 end-among b (x ∷ xs) h = go (same b x) refl (end-among b xs) h
   where
@@ -138,7 +138,7 @@ end-among b (x ∷ xs) h = go (same b x) refl (end-among b xs) h
     go false e f g = omega (arith, f (omega arith))
 
 pub latest-more : (bs cs : List Booking) → Holds bs cs → latestEnd bs ≤ latestEnd cs
-unfolding latestEnd times
+unfolding latestEnd times greatestOf
 latest-more [] cs f = omega arith
 latest-more (b ∷ bs) cs f =
     let one : 1 ≤ times b cs = omega (arith, rw (same-self b) at (f b)) in

@@ -10,7 +10,7 @@ use lib.ListN.{getD, length}
 use Rattle.calendar.specs.declared.TimeWindows.{TimeWindows}
 use Rattle.calendar.specs.declared.Calendar.{Calendar}
 use Rattle.calendar.specs.Basics.{and-split, and-join, and-true, not-both}
-use Rattle.calendar.specs.Search.{Found, nothing, at}
+use Rattle.calendar.specs.Search.{Found, nothing, at, greatestOf}
 use Rattle.calendar.specs.Spans.{spansFrom}
 use Rattle.calendar.specs.Valid as calendar
 use Rattle.calendar.specs.Fits.{fits}
@@ -101,7 +101,7 @@ next-still t x r y n a b = record {
 
 -- the latest end of a list of spans is at least each of them, and at most what they all are
 end-latest : (l : TimeWindows) (i n k : ℕ) → k < n → getD (l .ends) (i + k) 0 ≤ latest (spansFrom l i n)
-unfolding latest spansFrom
+unfolding latest spansFrom greatestOf
 end-latest l i zero k h = absurd (omega arith)
 end-latest l i (suc n) zero h =
     let e : i + 0 ≡ i = omega arith in
@@ -111,18 +111,18 @@ end-latest l i (suc n) (suc k) h =
     rw e (omega (arith, end-latest l (suc i) n k (omega arith)))
 
 latest-most : (l : TimeWindows) (m i n : ℕ) → ((k : ℕ) → i ≤ k → k < i + n → getD (l .ends) k 0 ≤ m) → latest (spansFrom l i n) ≤ m
-unfolding latest spansFrom
+unfolding latest spansFrom greatestOf
 latest-most l m i zero f = omega arith
 latest-most l m i (suc n) f = omega (arith, f i (omega arith) (omega arith), latest-most l m (suc i) n (λ k a b. f k (omega arith) (omega arith)))
 
 end-last : (bs : List Booking) (k : ℕ) → k < length bs → getD bs k none .end ≤ latestEnd bs
-unfolding latestEnd
+unfolding latestEnd greatestOf
 end-last [] k l = absurd (omega arith)
 end-last (b ∷ bs) zero l = omega arith
 end-last (b ∷ bs) (suc k) l = omega (arith, end-last bs k (omega arith))
 
 last-most : (bs : List Booking) (m : ℕ) → ((k : ℕ) → k < length bs → getD bs k none .end ≤ m) → latestEnd bs ≤ m
-unfolding latestEnd
+unfolding latestEnd greatestOf
 last-most [] m f = omega arith
 last-most (b ∷ bs) m f = omega (arith, f 0 (omega arith), last-most bs m (λ k l. f (suc k) (omega arith)))
 
@@ -131,7 +131,7 @@ booked-end t k h = rw (ap (λ (b : Booking). b .end) (booking-at t k h)) at (end
 
 -- past its last change a calendar is quiet
 pub quiet-past : (c : Calendar) → calendar.valid c ≡ true → (y : ℕ) → lastChange (c ∷ []) ≤ y → Quiet c (suc y)
-unfolding lastChange
+unfolding lastChange greatestOf
 quiet-past c v y h = record {
   windows = λ k l e.
       let f = filled (c .windows) (windows-right c v) k l in
@@ -153,7 +153,7 @@ last-still t r y h = record {
 }
 
 pub last-range : (t : ResourceTimeline) → Rules t → lastEvent t ≤ 2 ^ 42
-unfolding lastEvent lastChange
+unfolding lastEvent lastChange greatestOf
 last-range t r =
     let a = latest-most (t .calendar .windows) (2 ^ 42) 0 (t .calendar .windows .len) (λ k b c. filled (t .calendar .windows) (windows-right _ (r .calendar)) k (omega arith) .1) in
     let b = latest-most (t .calendar .blocks) (2 ^ 42) 0 (t .calendar .blocks .len) (λ k b c. filled (t .calendar .blocks) (blocks-right _ (r .calendar)) k (omega arith) .1) in

@@ -1,7 +1,8 @@
 -- 01, 'Diary': the bookings of a diary as a list, in its order.
-use Prim.Native.Nat.{ℕ, zero, suc, _+_, _-_, _*_, max}
-use mathlib.Core.List.{List, [], _∷_, _++_}
+use Prim.Native.Nat.{ℕ, zero, suc, _+_, _-_, _*_}
+use mathlib.Core.List.{List, [], _∷_, _++_, map}
 use lib.ListN.{getD}
+use Rattle.calendar.specs.Search.{greatestOf}
 use Rattle.timeline.specs.declared.ResourceTimeline.{ResourceTimeline}
 
 pub record Booking : Type 0 where
@@ -27,5 +28,4 @@ total (b ∷ bs) = (b .end - b .start) * b .units + total bs
 
 -- the latest end, 0 where there is no booking
 unfoldable pub latestEnd : List Booking → ℕ
-latestEnd [] = 0
-latestEnd (b ∷ bs) = max (b .end) (latestEnd bs)
+latestEnd bs = greatestOf (map (λ b. b .end) bs)

@@ -1,4 +1,5 @@
 -- `entries::greatest_setup` meets its contract. The loop: the greatest setup of the first i entries.
+use Rattle.calendar.specs.Search.{greatestOf}
 use Rattle.entries.proofs.greatest_setup.Statement.{statement}
 use Rattle.entries.proofs.greatest_setup.Tie as tie
 use Rattle.entries.proofs.greatest_setup.Reads as reads
@@ -19,7 +20,7 @@ abbrev μ-loop : tie.MeasureT-loop
 μ-loop e n most₀ i₀ most i = n - i
 
 loop-holds : tie.Need-loop-holds Inv-loop μ-loop
-unfolding greatestSetup
+unfolding greatestSetup greatestOf
 loop-holds c = (c .pre, omega arith, simp length-map at (c .good .0 .1 .1 .0 .1 .0 .1), refl)
 
 mul-x : tie.Need-mul-x Inv-loop μ-loop
