@@ -6,12 +6,13 @@ use Prim.Native.Nat.{ℕ, suc, _-_, _^_, _≤_, _<_, max}
 use native.Mathlib.Omega.{arith}
 use lib.ListN.{getD, length}
 use lib.Seq.{getD-take, length-take-le}
+use Rattle.calendar.specs.Every.{every}
 use Rattle.calendar.specs.Search.{Found, nothing, at}
-use Rattle.calendar.specs.Meaning.{least-found}
+use Rattle.calendar.specs.Meaning.{not-at, least-found}
 use Rattle.activity.specs.declared.ResourceRequirement.{ResourceRequirement}
 use Rattle.activity.specs.declared.Activity.{Activity}
 use Rattle.activity.specs.Serving.{serves}
-use Rattle.activity.specs.Check.{every, requirementsOf, activityRefusal}
+use Rattle.activity.specs.Check.{requirementsOf, activityRefusal}
 use Rattle.activity.proofs.Judging.{accepted}
 use Rattle.activity.specs.Check.{noRequirement}
 use Rattle.activity.proofs.Meaning.{duration-bounded}
@@ -51,11 +52,6 @@ module _ (b : Board) (v : board.valid b ≡ true) (a : Activity) (ready : ℕ) (
       let n : length (resourcesOf b) ≡ b .len = length-take-le (b .len) (b .resources) (all-there b v) in
       subst (Kept b a ready q) (getD-take (b .len) (b .resources) i noResource l) (each-at (Kept b a ready q) noResource (resourcesOf b) (all-kept b v a ready q) i (omega arith))
 
-no-start : (s : ℕ) → nothing ≡ at s → ⊥
-no-start s q =
-    let z : _≡_ {A = ℕ} 0 1 = cc in
-    omega arith
-
 -- a start lies at the instant asked from, or by 2^42
 start-by : (b : Board) (r : Resource) (usage : ℕ) (resumable : Bool) (span from s : ℕ) → (every (onBoard b) (companionsOf r) ≡ true → Sound (withCompanions b r usage))
     → startWith b r usage resumable span from ≡ at s → s ≤ max from (2 ^ 42)
@@ -67,7 +63,7 @@ start-by b r usage resumable span from s k = go (every (onBoard b) (companionsOf
 
     go : (c : Bool) → every (onBoard b) (companionsOf r) ≡ c → cond c (earliestOf resumable span xs from) nothing ≡ at s → s ≤ max from (2 ^ 42)
     go true e f = omega (arith, least-found (allStart resumable span xs) from (suc (lastOf xs - from)) s f .high, last-small xs (k e))
-    go false e f = absurd (no-start s f)
+    go false e f = absurd (not-at s f)
 
 -- of each requirement at least a unit is wanted
 pub used-some : (a : Activity) (ready i : ℕ) → activityRefusal a ready ≡ 0 → a .len ≤ length (a .requirements) → i < a .len → 1 ≤ getD (a .requirements) i noRequirement .usage
@@ -97,7 +93,7 @@ module _ (b : Board) (v : board.valid b ≡ true) (a : Activity) (ready : ℕ) (
     where
       go : (c : Bool) → cond c (asked t) nothing ≡ at s → s ≤ 2 ^ 43
       go true e = omega (arith, start-by b (resourceAt b i) (q .usage) (a .resumable) (spanAlone a (resourceAt b i)) (max t (arrival b a ready (resourceAt b i))) s (companions-kept b v a ready w i l q) e, arrival-range b v a ready w i l)
-      go false e = absurd (no-start s e)
+      go false e = absurd (not-at s e)
 
   -- from a later instant, up to the start, it is the same
   pub found-later : (t u : ℕ) → t ≤ u → u ≤ numberOf (foundAt b a ready q t i) → foundAt b a ready q u i ≡ foundAt b a ready q t i

@@ -9,6 +9,7 @@ use lib.ListN.{getD, set, length, take, length-map, length-take, length-set}
 use lib.Seq.{getD-set-same}
 use lib.Dec.{ltb, eqb}
 use borrow.Author.Tests.{ltb-true, le-ltb}
+use Rattle.calendar.specs.Every.{every}
 use Rattle.calendar.specs.Basics.{and-split, not-both}
 use Rattle.calendar.specs.Search.{Found, nothing, at}
 use Rattle.timeline.specs.declared.ResourceTimeline.{ResourceTimeline}
@@ -16,7 +17,7 @@ use Rattle.timeline.specs.Valid as timeline
 use Rattle.activity.specs.declared.ResourceRequirement.{ResourceRequirement}
 use Rattle.activity.specs.declared.Activity.{Activity}
 use Rattle.activity.specs.Serving.{serves}
-use Rattle.activity.specs.Check.{every, activityRefusal}
+use Rattle.activity.specs.Check.{activityRefusal}
 use Rattle.board.specs.declared.Resource.{Resource}
 use Rattle.board.specs.declared.Board.{Board}
 use Rattle.board.specs.Resources.{noDiary, resourcesOf, resourceAt, onBoard}

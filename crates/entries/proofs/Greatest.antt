@@ -1,9 +1,10 @@
 -- The greatest setup, one entry more looked at.
 use mathlib.Core.Path.{_≡_, ap, _∙_}
-use mathlib.Core.List.{List, [], _∷_, _++_}
+use mathlib.Core.List.{List, [], _∷_, _++_, map, map-append}
 use Prim.Native.Nat.{ℕ, _+_, _<_, max}
-use native.Mathlib.Omega.{arith}
 use lib.ListN.{length, getD, take}
+use Rattle.calendar.specs.Search.{greatestOf}
+use Rattle.calendar.specs.Meaning.{greatest-snoc}
 use Rattle.scheduler.specs.declared.Entry.{Entry}
 use Rattle.scheduler.specs.Fitting.{greatestSetup}
 use Rattle.scheduler.specs.Arrays.{take-next}

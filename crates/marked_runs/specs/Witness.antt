@@ -14,7 +14,7 @@ use Rattle.timeline.specs.Bookings.{Booking, bookingsTo, bookings, total}
 use Rattle.timeline.specs.Valid as timeline
 use Rattle.timeline.specs.Diary.{insertBooking, latestEnds, diary}
 use Rattle.timeline.specs.Book.{bookRefusal, taken, bookReply}
-use Rattle.timeline.proofs.Meaning.{times, Holds}
+use Rattle.timeline.proofs.Meaning.{times, Within}
 use Rattle.board.specs.declared.Board.{Board}
 use Rattle.board.specs.Resources as resources
 use Rattle.board.specs.Valid as board
@@ -22,7 +22,7 @@ use Rattle.scheduler.specs.Alone.{resourceIn}
 use Rattle.scheduler.specs.Placing.{placed, placeReply}
 use Rattle.scheduler.specs.Lists.{Each, each-end, each-on}
 use Rattle.scheduler.specs.Alike.{AlikeResource, Alike, NoExtra}
-use Rattle.scheduler.specs.Lending.{same-alike}
+use Rattle.scheduler.specs.AlikeDiaries.{same-alike}
 use Rattle.scheduler.specs.Demand3.{demand-3}
 use Rattle.marked_runs.specs.Runs.{boardOf, booked, free1, order, entry, first-placed}
 
@@ -32,11 +32,11 @@ first = boardOf (booked free1 0 100) free1
 abbrev pub second : Board
 second = boardOf (booked (booked free1 0 100) 10 40) free1
 
-one-more : (x y : Booking) → Holds (x ∷ []) (x ∷ y ∷ [])
+one-more : (x y : Booking) → Within (x ∷ []) (x ∷ y ∷ [])
 unfolding times
 one-more x y b = omega arith
 
-booked-more : Holds (bookings (booked free1 0 100)) (bookings (booked (booked free1 0 100) 10 40))
+booked-more : Within (bookings (booked free1 0 100)) (bookings (booked (booked free1 0 100) 10 40))
 unfolding spansFrom calendar.cellRight everyFrom calendar.spansRight calendar.valid empty bookingsTo total insertBooking latestEnds diary bookRefusal taken bookReply timeline.before timeline.cellRight timeline.cellEmpty timeline.valid resources.lookupTo resources.isAt board.durationRight board.entryRight board.isZero board.matrixRight board.companionsRight board.lastRight board.resourceRight board.calendarBlank board.diaryBlank board.lastBlank board.resourceBlank board.cellRight board.transportRight board.valid leastFrom
 booked-more = one-more (record { start = 0; end = 100; units = 1 }) (record { start = 10; end = 40; units = 1 })
 

@@ -6,8 +6,9 @@ use Prim.Native.Nat.{ℕ, zero, suc, _+_, _≤_, _<_}
 use native.Mathlib.Omega.{arith}
 use lib.ListN.{getD, length, take}
 use lib.Seq.{take-suc}
+use Rattle.calendar.specs.Every.{every, every-append}
 use Rattle.calendar.specs.declared.Calendar.{Calendar}
-use Rattle.calendar.specs.Basics.{and-true, and-assoc}
+use Rattle.calendar.specs.Basics.{and-true}
 use Rattle.joint.specs.Layout.{blank}
 use Rattle.timeline.specs.declared.ResourceTimeline.{ResourceTimeline}
 use Rattle.timeline.specs.Earliest.{freeOn}
@@ -26,9 +27,8 @@ shares-next ts us i =
     rw z refl
 
 pub free-more : (xs : List Share) (x : Share) (s e : ℕ) → allFree (xs ++ (x ∷ [])) s e ≡ allFree xs s e && freeOn (x .timeline) (x .units) s e
-unfolding allFree
-free-more [] x s e = and-true (freeOn (x .timeline) (x .units) s e)
-free-more (y ∷ xs) x s e = ap (λ (p : Bool). freeOn (y .timeline) (y .units) s e && p) (free-more xs x s e) ∙ sym (and-assoc (freeOn (y .timeline) (y .units) s e) (allFree xs s e) (freeOn (x .timeline) (x .units) s e))
+unfolding allFree every
+free-more xs x s e = every-append (λ (y : Share). freeOn (y .timeline) (y .units) s e) xs (x ∷ []) ∙ ap (λ (p : Bool). allFree xs s e && p) (and-true (freeOn (x .timeline) (x .units) s e))
 
 -- calm on one more
 pub calm-on : (ts : List ResourceTimeline) (us : List ℕ) (i y : ℕ) → Calm y (sharesTo ts us i) → Still (getD ts i noDiary) y → Calm y (sharesTo ts us (i + 1))

@@ -7,7 +7,7 @@ use native.Mathlib.Omega.{arith}
 use Rattle.calendar.specs.Basics.{not-both}
 use Rattle.calendar.specs.Search.{Found, nothing, at}
 use Rattle.calendar.specs.Work.{joint, lastChange, jointEnd}
-use Rattle.calendar.specs.Meaning.{joint-changeless, joint-end-found, work-end-back}
+use Rattle.calendar.specs.Meaning.{joint-changeless, joint-end-found, work-end-back, not-at}
 use Rattle.timeline.specs.Ask as asking
 use Rattle.timeline.proofs.Searching.{Sought, sought-on, sought-found, sought-none}
 use Rattle.scheduler.specs.Alone.{Share, lastOf}
@@ -29,32 +29,20 @@ module _ (ys : List Share) (s : ℕ) (f : Found) where
   unfolding endFree freeToEnd
   end-found e p = go f refl p
     where
-      isAt : Found → Bool
-      isAt nothing = false
-      isAt (at x) = true
-
-      when : Found → ℕ
-      when nothing = 0
-      when (at x) = x
-
       free : (d : ℕ) (q : Bool) → allFree ys s d ≡ q → cond q (at d) nothing ≡ at e → (at d ≡ at e) × (allFree ys s d ≡ true)
       free d true k h = (h, k)
-      free d false k h = absurd (not-both true refl (sym (ap isAt h)))
+      free d false k h = absurd (not-at e h)
 
       go : (g : Found) → f ≡ g → endFree ys s g ≡ at e → (g ≡ at e) × (freeToEnd ys s g ≡ true)
-      go nothing h k = absurd (not-both true refl (sym (ap isAt k)))
+      go nothing h k = absurd (not-at e k)
       go (at d) h k = free d (allFree ys s d) refl k
 
   pub end-free : endFree ys s f ≡ nothing → freeToEnd ys s f ≡ false
   unfolding endFree freeToEnd
   end-free p = go f p
     where
-      isAt : Found → Bool
-      isAt nothing = false
-      isAt (at x) = true
-
       free : (d : ℕ) (q : Bool) → allFree ys s d ≡ q → cond q (at d) nothing ≡ nothing → q ≡ false
-      free d true k h = absurd (not-both true refl (ap isAt h))
+      free d true k h = absurd (not-at d (sym h))
       free d false k h = refl
 
       go : (g : Found) → endFree ys s g ≡ nothing → freeToEnd ys s g ≡ false

@@ -9,9 +9,11 @@ use lib.ListN.{length, getD, set, take, length-set}
 use lib.Seq.{getD-set-same, getD-set-other}
 use lib.Dec.{leb, ltb, eqb}
 use borrow.Author.Tests.{lt-ltb, ltb-true, eq-eqb}
+use Rattle.calendar.specs.Every.{every}
 use Rattle.calendar.specs.declared.Calendar.{Calendar}
 use Rattle.calendar.specs.Basics.{not-both, same-or-not}
-use Rattle.calendar.specs.Search.{Found, nothing, at}
+use Rattle.calendar.specs.Search.{Found, nothing, at, when}
+use Rattle.calendar.specs.Meaning.{not-at}
 use Rattle.calendar.specs.Work.{joint, jointEnd, workEnd}
 use Rattle.calendar.specs.Valid as calendar
 use Rattle.work_ends.specs.Layout.{Layout, laid, lastCell}
@@ -44,35 +46,23 @@ endIf free end = cond free (at end) nothing
 
 -- with no diary asked, the joint end itself
 end-none-asked : (s : ℕ) (f : Found) → f ≡ endFree [] s f
-unfolding endFree allFree
+unfolding endFree allFree every
 end-none-asked s nothing = refl
 end-none-asked s (at e) = refl
 
 -- one diary more
 end-more : (xs : List Share) (x : Share) (s e : ℕ) (free : Bool) (f : Found) → endIf free e ≡ endFree xs s f → endIf (free && freeOn (x .timeline) (x .units) s e) e ≡ endFree (xs ++ (x ∷ [])) s f
-unfolding endFree
-end-more xs x s e true nothing h = absurd (not-both true refl (ap isAt h))
-  where
-    isAt : Found → Bool
-    isAt nothing = false
-    isAt (at y) = true
+unfolding endFree when
+end-more xs x s e true nothing h = absurd (not-at e (sym h))
 end-more xs x s e false nothing h = refl
 end-more xs x s e free (at d) h = go free (allFree xs s d) refl h
   where
-    when : Found → ℕ
-    when nothing = 0
-    when (at y) = y
-
-    isAt : Found → Bool
-    isAt nothing = false
-    isAt (at y) = true
-
     go : (p q : Bool) → allFree xs s d ≡ q → endIf p e ≡ cond q (at d) nothing → endIf (p && freeOn (x .timeline) (x .units) s e) e ≡ cond (allFree (xs ++ (x ∷ [])) s d) (at d) nothing
     go true true k j =
         let z : e ≡ d = ap when j in
         rw (free-more xs x s d, k, z) refl
-    go true false k j = absurd (not-both true refl (ap isAt j))
-    go false true k j = absurd (not-both true refl (sym (ap isAt j)))
+    go true false k j = absurd (not-at e (sym j))
+    go false true k j = absurd (not-at d j)
     go false false k j = rw (free-more xs x s d, k) refl
 
 module _ (ts : List ResourceTimeline) (us : List ℕ) (n work from : ℕ) (stops : List ℕ) where

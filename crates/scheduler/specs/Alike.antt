@@ -4,7 +4,7 @@ use mathlib.Core.Bool.{true}
 use Prim.Native.Nat.{ℕ, _<_}
 use Rattle.timeline.specs.declared.ResourceTimeline.{ResourceTimeline}
 use Rattle.timeline.specs.Bookings.{bookings}
-use Rattle.timeline.proofs.Meaning.{Holds}
+use Rattle.timeline.proofs.Meaning.{Within}
 use Rattle.board.specs.declared.Resource.{Resource}
 use Rattle.board.specs.declared.Board.{Board}
 use Rattle.board.specs.Resources.{resourceAt}
@@ -15,7 +15,7 @@ use Rattle.scheduler.specs.Alone.{diaryOf}
 pub record AlikeDiary (t u : ResourceTimeline) : Type 0 where
   pub capacity-same : t .capacity ≡ u .capacity
   pub calendar-same : t .calendar ≡ u .calendar
-  pub more : Holds (bookings t) (bookings u)
+  pub more : Within (bookings t) (bookings u)
 
 -- resources that differ only in their diaries' bookings, last categories being the same
 pub record AlikeResource (r s : Resource) : Type 0 where
@@ -38,4 +38,4 @@ pub record Alike (b c : Board) : Type 0 where
 
 -- no extra is on a resource: the first board's diary holds each booking of the second's too
 abbrev pub NoExtra : Board → Board → ℕ → Type 0
-NoExtra b c number = Holds (bookings (diaryOf c number)) (bookings (diaryOf b number))
+NoExtra b c number = Within (bookings (diaryOf c number)) (bookings (diaryOf b number))

@@ -3,14 +3,14 @@ use Prim.Native.Nat.{ℕ, suc, _+_, _-_, max}
 use mathlib.Core.Bool.{Bool, true, _&&_, cond}
 use mathlib.Core.List.{List, [], _∷_, map}
 use lib.ListN.{take}
-use Rattle.calendar.specs.Search.{Found, nothing, at, leastFrom}
+use Rattle.calendar.specs.Search.{Found, nothing, at, leastFrom, greatestOf}
 use Rattle.timeline.specs.declared.ResourceTimeline.{ResourceTimeline}
 use Rattle.timeline.specs.Earliest.{fitsAt, startsAt, lastEvent}
 use Rattle.activity.specs.declared.ActivityDuration.{ActivityDuration}
 use Rattle.activity.specs.declared.ResourceRequirement.{ResourceRequirement}
 use Rattle.activity.specs.declared.Activity.{Activity}
 use Rattle.activity.specs.Durations.{durationOn}
-use Rattle.activity.specs.Check.{every}
+use Rattle.calendar.specs.Every.{every}
 use Rattle.board.specs.declared.Resource.{Resource}
 use Rattle.board.specs.declared.Board.{Board}
 use Rattle.board.specs.Resources.{noResource, resourceAt, lookup, onBoard}
@@ -28,13 +28,11 @@ canStart resumable span x s = cond resumable (startsAt (x .timeline) span (x .un
 
 -- and on each of several diaries
 unfoldable pub allStart : Bool → ℕ → List Share → ℕ → Bool
-allStart resumable span [] s = true
-allStart resumable span (x ∷ xs) s = canStart resumable span x s && allStart resumable span xs s
+allStart resumable span xs s = every (λ x. canStart resumable span x s) xs
 
 -- from here on nothing changes on any of them
 unfoldable pub lastOf : List Share → ℕ
-lastOf [] = 0
-lastOf (x ∷ xs) = max (lastEvent (x .timeline)) (lastOf xs)
+lastOf xs = greatestOf (map (λ x. lastEvent (x .timeline)) xs)
 
 -- the least start ≥ from on all of them (the bound cuts nothing off: Together.antt, `together-none`)
 unfoldable pub earliestOf : Bool → ℕ → List Share → ℕ → Found

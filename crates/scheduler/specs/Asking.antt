@@ -9,7 +9,8 @@ use native.Mathlib.Omega.{arith}
 use lib.ListN.{getD}
 use lib.Dec.{eqb}
 use borrow.Author.Tests.{eqb-true, eqb-false}
-use Rattle.calendar.specs.Basics.{and-split, and-join, and-assoc, and-true, no-way, not-both, lt-or-ge}
+use Rattle.calendar.specs.Every.{every, every-append}
+use Rattle.calendar.specs.Basics.{and-split, and-join, and-true, no-way, not-both, lt-or-ge}
 use Rattle.calendar.specs.Search.{Found, nothing, at}
 use Rattle.timeline.specs.declared.ResourceTimeline.{ResourceTimeline}
 use Rattle.board.specs.Resources.{noDiary}
@@ -45,14 +46,6 @@ next-few zero q = omega arith
 next-few (suc i) true = omega arith
 next-few (suc i) false = omega arith
 
--- one diary more
-all-snoc : (resumable : Bool) (span : ℕ) (xs : List Share) (x : Share) (y : ℕ) → allStart resumable span (xs ++ (x ∷ [])) y ≡ allStart resumable span xs y && canStart resumable span x y
-unfolding allStart
-all-snoc resumable span [] x y = and-true (canStart resumable span x y)
-all-snoc resumable span (z ∷ xs) x y =
-    ap (λ (p : Bool). canStart resumable span z y && p) (all-snoc resumable span xs x y)
-    ∙ sym (and-assoc (canStart resumable span z y) (allStart resumable span xs y) (canStart resumable span x y))
-
 module _ (resumable : Bool) (span : ℕ) (ts : List ResourceTimeline) (us : List ℕ) where
   -- the k-th can start at y, and all of the first n
   abbrev pub can : ℕ → ℕ → Bool
@@ -61,9 +54,10 @@ module _ (resumable : Bool) (span : ℕ) (ts : List ResourceTimeline) (us : List
   abbrev pub all : ℕ → ℕ → Bool
   all n y = allStart resumable span (sharesTo ts us n) y
 
+  -- one diary more
   all-next : (n y : ℕ) → all (suc n) y ≡ all n y && can n y
-  unfolding sharesTo
-  all-next n y = all-snoc resumable span (sharesTo ts us n) (shareAt ts us n) y
+  unfolding sharesTo allStart every
+  all-next n y = every-append (λ (x : Share). canStart resumable span x y) (sharesTo ts us n) (shareAt ts us n ∷ []) ∙ ap (λ (p : Bool). all n y && p) (and-true (can n y))
 
   all-each : (n k y : ℕ) → k < n → all n y ≡ true → can k y ≡ true
   all-each zero k y l h = absurd (omega arith)
@@ -88,12 +82,12 @@ module _ (resumable : Bool) (span : ℕ) (ts : List ResourceTimeline) (us : List
     pub range : t ≤ 2 ^ 43
 
   pub asked-start : (n from : ℕ) → from ≤ 2 ^ 43 → Asked n from from 0
-  unfolding sharesTo allStart
+  unfolding sharesTo allStart every
   asked-start n from r = record { sought = sought-start (all n) from; those = refl; most = omega arith; range = r }
 
   -- the i-th answers with x
   those-next : (t i x : ℕ) (q : Bool) → (q ≡ true → x ≡ t) → all i t ≡ true → can i x ≡ true → all (nextAsked i q) x ≡ true
-  unfolding nextAsked sharesTo allStart
+  unfolding nextAsked sharesTo allStart every
   those-next t zero x q same a c = all-next 0 x ∙ c
   those-next t (suc i) x true same a c =
       let z : suc i + 1 ≡ suc (suc i) = omega arith in

@@ -4,6 +4,7 @@ use mathlib.Core.Bool.{Bool, true, false}
 use mathlib.Core.List.{List, [], _∷_, map}
 use Prim.Native.Nat.{ℕ, suc, _+_, _-_, _≤_, max}
 use native.Mathlib.Omega.{arith}
+use Rattle.calendar.specs.Every.{every}
 use Rattle.calendar.specs.declared.Calendar.{Calendar}
 use Rattle.calendar.specs.Basics.{and-split, and-join, not-both}
 use Rattle.calendar.specs.Search.{Found, nothing, at, leastFrom}
@@ -28,7 +29,7 @@ joint-back (x ∷ xs) y (each-on s c) h =
     and-join (working (x .timeline .calendar) y) (joint (map calendarOf xs) y) (working-back (x .timeline .calendar) y (s .quiet) (w .0)) (joint-back xs y c (w .1))
 
 pub all-free-back : (xs : List Share) (y e d : ℕ) → Calm (suc y) xs → e ≤ d → allFree xs (suc y) d ≡ true → allFree xs y e ≡ true
-unfolding allFree
+unfolding allFree every
 all-free-back [] y e d each-end l h = refl
 all-free-back (x ∷ xs) y e d (each-on s c) l h =
     let w = and-split (freeOn (x .timeline) (x .units) (suc y) d) (allFree xs (suc y) d) h in

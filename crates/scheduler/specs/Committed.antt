@@ -31,7 +31,7 @@ use Rattle.board.proofs.Meaning.{lookup-means, resource-rules}
 use Rattle.board.proofs.Keeping.{valid-with}
 use Rattle.scheduler.specs.Alone.{resourceIn, diaryOf}
 use Rattle.scheduler.specs.Alike.{AlikeDiary}
-use Rattle.scheduler.specs.Lending.{same-alike}
+use Rattle.scheduler.specs.AlikeDiaries.{same-alike}
 use Rattle.scheduler.specs.Committing.{Line, entriesOn, linesOf, linesRefusal, commitRefusal, withBooking, lastAfter, booked, bookAll, commitReply}
 use Rattle.scheduler.specs.Lists.{Each, each-end, each-on, each-map}
 use Rattle.calendar.specs.Meaning.{least-same}

@@ -30,8 +30,8 @@ use Rattle.scheduler.specs.Lists.{Each, each-end, Pairs}
 use Rattle.scheduler.specs.Chosen.{Chooses}
 use Rattle.scheduler.specs.Meaning.{choosing-means, some-of-each}
 use Rattle.scheduler.specs.Alike.{Alike, NoExtra}
-use Rattle.scheduler.specs.Twins.{Clean}
-use Rattle.scheduler.specs.Holding.{TwinHeld, enough-less, held-same, entries-same, clean-held-all, fitted-same}
+use Rattle.scheduler.specs.AlikeResources.{Clean}
+use Rattle.scheduler.specs.AlikeHeld.{TwinHeld, enough-less, held-same, entries-same, clean-held-all, fitted-same}
 
 fitted-instant : (b : Board) (a : Activity) (span t : ℕ) (es : List Entry) → choosingInstant (fitted b a span t es) ≡ at t
 unfolding fitted started ended choosingInstant

@@ -5,6 +5,7 @@ use mathlib.Core.List.{List, [], _∷_, _++_, map}
 use lib.Dec.{eqb}
 use Rattle.calendar.specs.declared.Calendar.{Calendar}
 use Rattle.calendar.specs.Search.{Found, nothing, at, leastFrom, greatestOf}
+use Rattle.calendar.specs.Every.{every}
 use Rattle.calendar.specs.Fits.{fits}
 use Rattle.calendar.specs.Work.{lastChange, jointEnd}
 use Rattle.timeline.specs.Earliest.{freeOn}
@@ -76,8 +77,7 @@ fitsAll xs own span s = allStart false span xs s && fits own s (s + span)
 
 -- every entry has its units free over [s, e)
 unfoldable pub allFree : List Share → ℕ → ℕ → Bool
-allFree [] s e = true
-allFree (x ∷ xs) s e = freeOn (x .timeline) (x .units) s e && allFree xs s e
+allFree xs s e = every (λ x. freeOn (x .timeline) (x .units) s e) xs
 
 unfoldable pub freeToEnd : List Share → ℕ → Found → Bool
 freeToEnd xs s nothing = false

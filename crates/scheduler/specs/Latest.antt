@@ -7,8 +7,9 @@ use mathlib.Core.Logic.{_⊎_, inl, inr, ⊎-elim}
 use Prim.Native.Nat.{ℕ, zero, suc, _*_, _^_, _≤_, _<_, max}
 use native.Mathlib.Omega.{arith}
 use lib.ListN.{getD, length, length-append}
+use Rattle.calendar.specs.Every.{every}
 use Rattle.calendar.specs.Basics.{and-split, and-join, no-way, not-both, lt-or-ge}
-use Rattle.calendar.specs.Search.{Found, nothing, at}
+use Rattle.calendar.specs.Search.{Found, nothing, at, greatestOf}
 use Rattle.timeline.specs.declared.ResourceTimeline.{ResourceTimeline}
 use Rattle.timeline.specs.Valid.{valid}
 use Rattle.timeline.specs.Earliest.{fitsAt, startsAt, lastEvent, earliestFit, earliestResumable}
@@ -74,7 +75,7 @@ start-listed resumable span x t s w =
     least-listed (canStart resumable span x) (events (x .timeline)) t s (λ y l e h. can-back resumable span x y (still-else (x .timeline) y e) h) w
 
 pub latest-says : (resumable : Bool) (span : ℕ) (xs : List Share) (t : ℕ) → Sound xs → Latest (allStart resumable span xs) (eventsOf xs) t (latestOf resumable span xs t)
-unfolding latestOf allStart eventsOf later
+unfolding latestOf allStart eventsOf later every
 latest-says resumable span [] t each-end = record { low = omega arith; none = λ y l m. absurd (omega arith); here = λ e. refl; listed = inl refl }
 latest-says resumable span (x ∷ xs) t (each-on v s) = go (startOn resumable span x t) (latestOf resumable span xs t) (start-answers resumable span x t v) (latest-says resumable span xs t s)
   where
@@ -136,7 +137,7 @@ together-is resumable span xs from f v w = answers-same (allStart resumable span
 
 -- on diaries that keep the rules nothing changes after 2^42
 pub last-small : (xs : List Share) → Sound xs → lastOf xs ≤ 2 ^ 42
-unfolding lastOf
+unfolding lastOf greatestOf
 last-small [] each-end = omega arith
 last-small (x ∷ xs) (each-on v s) = omega (arith, last-range (x .timeline) (rules (x .timeline) v), last-small xs s)
 

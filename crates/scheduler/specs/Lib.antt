@@ -28,9 +28,9 @@ pub mod Rounds
 pub mod Chosen
 pub mod Ruled
 pub mod Reported
-pub mod Lending
-pub mod Twins
-pub mod Holding
+pub mod AlikeDiaries
+pub mod AlikeResources
+pub mod AlikeHeld
 -- How the code reads several diaries and those held.
 pub mod Shares
 pub mod Holds

@@ -138,7 +138,7 @@ module _ (a : Activity) (open-ever : a .calendar .windows .len ≡ 0) (never-shu
   through = straight (a .calendar) ready span open-ever never-shut
 
   at-once : (resumable : Bool) → suits resumable [] (a .calendar) span ready ≡ true
-  unfolding suits startsAll freeToEnd allFree fitsAll allStart
+  unfolding suits startsAll freeToEnd allFree fitsAll allStart every
   at-once true = rw through refl
   at-once false = fits-is (a .calendar) ready (ready + span) (record { window = inl open-ever; blocks = λ k l. absurd (omega (arith, never-shut)) })
 

@@ -4,6 +4,7 @@ use mathlib.Core.Bool.{Bool, true, false, _&&_, and-comm}
 use mathlib.Core.List.{List, [], _∷_, map}
 use Prim.Native.Nat.{ℕ, _+_, _-_}
 use native.Mathlib.Omega.{arith}
+use Rattle.calendar.specs.Every.{every}
 use Rattle.calendar.specs.declared.Calendar.{Calendar}
 use Rattle.calendar.specs.Basics.{and-true}
 use Rattle.calendar.specs.Search.{Found, nothing, at}
@@ -40,7 +41,7 @@ unfolding canStart fitsAt diary
 own-fits own span s = rw (own-free own s (s + span)) (and-true (fits own s (s + span)))
 
 pub suits-on : (resumable : Bool) (xs : List Share) (own : Calendar) (span s : ℕ) → suits resumable xs own span s ≡ suitsOn resumable (ownShare own ∷ xs) span s
-unfolding suits suitsOn startsAll fitsAll allStart freeToEnd allFree diary
+unfolding suits suitsOn startsAll fitsAll allStart freeToEnd allFree diary every
 suits-on true xs own span s = go (jointEnd (own ∷ map calendarOf xs) s span)
   where
     go : (f : Found) → freeToEnd xs s f ≡ freeToEnd (ownShare own ∷ xs) s f

@@ -4,8 +4,9 @@ use mathlib.Core.Bool.{Bool, true, false}
 use mathlib.Core.List.{List, [], _∷_}
 use Prim.Native.Nat.{ℕ, suc, _-_, _≤_}
 use native.Mathlib.Omega.{arith}
+use Rattle.calendar.specs.Every.{every}
 use Rattle.calendar.specs.Basics.{and-split, and-join}
-use Rattle.calendar.specs.Search.{nothing, at}
+use Rattle.calendar.specs.Search.{nothing, at, greatestOf}
 use Rattle.calendar.specs.Meaning.{least-found}
 use Rattle.timeline.specs.Valid.{valid}
 use Rattle.timeline.proofs.Rules.{rules}
@@ -29,14 +30,14 @@ can-back true span x y s h = starts-at-back (x .timeline) span (x .units) y s h
 can-back false span x y s h = fits-at-back (x .timeline) span (x .units) y s h
 
 pub all-back : (resumable : Bool) (span : ℕ) (xs : List Share) (y : ℕ) → Calm (suc y) xs → allStart resumable span xs (suc y) ≡ true → allStart resumable span xs y ≡ true
-unfolding allStart
+unfolding allStart every
 all-back resumable span [] y each-end h = refl
 all-back resumable span (x ∷ xs) y (each-on s c) h =
     let w = and-split _ _ h in
     and-join _ _ (can-back resumable span x y s (w .0)) (all-back resumable span xs y c (w .1))
 
 pub last-calm : (xs : List Share) → Sound xs → (y : ℕ) → lastOf xs ≤ y → Calm (suc y) xs
-unfolding lastOf
+unfolding lastOf greatestOf
 last-calm [] each-end y l = each-end
 last-calm (x ∷ xs) (each-on v s) y l = each-on (last-still (x .timeline) (rules (x .timeline) v) y (omega arith)) (last-calm xs s y (omega arith))
 

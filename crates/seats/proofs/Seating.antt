@@ -9,9 +9,9 @@ use lib.ListN.{length, getD, take, length-map, length-take}
 use lib.Seq.{getD-take, length-take-le}
 use lib.Dec.{ltb}
 use borrow.Author.Tests.{lt-ltb, le-ltb}
+use Rattle.calendar.specs.Every.{every}
 use Rattle.calendar.specs.Basics.{and-split, lt-or-ge}
 use Rattle.calendar.specs.Search.{Found, at}
-use Rattle.activity.specs.Check.{every}
 use Rattle.board.specs.declared.Resource.{Resource}
 use Rattle.board.specs.declared.Board.{Board}
 use Rattle.board.specs.Resources.{noDiary, lookup, isAt, onBoard, resourceAt}

@@ -5,7 +5,7 @@ use mathlib.Core.Bool.{Bool, cond}
 use mathlib.Core.List.{List, _∷_, map}
 use lib.ListN.{getD}
 use lib.Dec.{ltb}
-use Rattle.activity.specs.Check.{every}
+use Rattle.calendar.specs.Every.{every}
 use Rattle.board.specs.declared.Board.{Board}
 use Rattle.board.specs.Resources.{lookup}
 use Rattle.board.specs.Places.{placeOf}

@@ -117,10 +117,10 @@ unfolding same
 same-self b = simp (eq-eqb (b .start) (b .start) refl, eq-eqb (b .end) (b .end) refl, eq-eqb (b .units) (b .units) refl)
 
 -- the second list holds each booking of the first, counted with repeats
-abbrev pub Holds : List Booking → List Booking → Type 0
-Holds bs cs = (b : Booking) → times b bs ≤ times b cs
+abbrev pub Within : List Booking → List Booking → Type 0
+Within bs cs = (b : Booking) → times b bs ≤ times b cs
 
-pub load-more : (bs cs : List Booking) (s e p : ℕ) → Holds bs cs → load bs s e p ≤ load cs s e p
+pub load-more : (bs cs : List Booking) (s e p : ℕ) → Within bs cs → load bs s e p ≤ load cs s e p
 unfolding load times
 load-more [] cs s e p f = omega arith
 load-more (b ∷ bs) cs s e p f =
@@ -137,7 +137,7 @@ end-among b (x ∷ xs) h = go (same b x) refl (end-among b xs) h
     go true e f g = rw (same-is b x e) (omega arith)
     go false e f g = omega (arith, f (omega arith))
 
-pub latest-more : (bs cs : List Booking) → Holds bs cs → latestEnd bs ≤ latestEnd cs
+pub latest-more : (bs cs : List Booking) → Within bs cs → latestEnd bs ≤ latestEnd cs
 unfolding latestEnd times greatestOf
 latest-more [] cs f = omega arith
 latest-more (b ∷ bs) cs f =
@@ -145,13 +145,13 @@ latest-more (b ∷ bs) cs f =
     omega (arith, end-among b cs one, latest-more bs cs (λ c. omega (arith, f c)))
 
 -- more bookings free nothing ..
-pub free-more : (cap : ℕ) (bs cs : List Booking) (u s e : ℕ) → Holds bs cs → free cap cs u s e ≡ true → free cap bs u s e ≡ true
+pub free-more : (cap : ℕ) (bs cs : List Booking) (u s e : ℕ) → Within bs cs → free cap cs u s e ≡ true → free cap bs u s e ≡ true
 free-more cap bs cs u s e f h =
     let g = free-facts cap cs u s e h in
     free-yes cap bs u s e (record { few = g .few; fits = λ p w. omega (arith, g .fits p w, load-more bs cs s e p f) })
 
 -- .. and what is free depends on the bookings counted with repeats, never on their order
-pub free-same : (cap : ℕ) (bs cs : List Booking) (u s e : ℕ) → Holds bs cs → Holds cs bs → free cap bs u s e ≡ free cap cs u s e
+pub free-same : (cap : ℕ) (bs cs : List Booking) (u s e : ℕ) → Within bs cs → Within cs bs → free cap bs u s e ≡ free cap cs u s e
 free-same cap bs cs u s e f g = go (free cap cs u s e) refl
   where
     go : (b : Bool) → free cap cs u s e ≡ b → free cap bs u s e ≡ b

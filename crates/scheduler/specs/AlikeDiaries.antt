@@ -5,6 +5,7 @@ use mathlib.Core.List.{List, [], _∷_}
 use Prim.Native.Nat.{ℕ, _+_}
 use native.Mathlib.Omega.{arith}
 use lib.Dec.{eqb}
+use Rattle.calendar.specs.Every.{every}
 use Rattle.calendar.specs.declared.Calendar.{Calendar}
 use Rattle.calendar.specs.Basics.{and-split, and-join, not-both}
 use Rattle.calendar.specs.Search.{Found, nothing, at, leastFrom}
@@ -47,14 +48,14 @@ can-less false span x y s a h =
     (free-less x y s (s + span) a (w .1))
 
 pub all-less : (resumable : Bool) (span : ℕ) (xs ys : List Share) (s : ℕ) → Pairs AlikeShare xs ys → allStart resumable span ys s ≡ true → allStart resumable span xs s ≡ true
-unfolding allStart
+unfolding allStart every
 all-less resumable span [] [] s pairs-end h = refl
 all-less resumable span (x ∷ xs) (y ∷ ys) s (pairs-on a p) h =
     let w = and-split (canStart resumable span y s) (allStart resumable span ys s) h in
     and-join (canStart resumable span x s) (allStart resumable span xs s) (can-less resumable span x y s a (w .0)) (all-less resumable span xs ys s p (w .1))
 
 pub all-free-less : (xs ys : List Share) (s e : ℕ) → Pairs AlikeShare xs ys → allFree ys s e ≡ true → allFree xs s e ≡ true
-unfolding allFree
+unfolding allFree every
 all-free-less [] [] s e pairs-end h = refl
 all-free-less (x ∷ xs) (y ∷ ys) s e (pairs-on a p) h =
     let w = and-split (freeOn (y .timeline) (y .units) s e) (allFree ys s e) h in

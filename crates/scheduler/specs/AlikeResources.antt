@@ -23,7 +23,7 @@ use Rattle.scheduler.specs.Arrays.{pairs-cells}
 use Rattle.scheduler.specs.Alike.{AlikeDiary, AlikeResource, Alike, NoExtra}
 use Rattle.scheduler.specs.Ruled.{diary-at, all-there}
 use Rattle.board.proofs.Meaning.{lookup-is}
-use Rattle.scheduler.specs.Lending.{AlikeShare, all-less, on-same, diaries-alike, diaries-same}
+use Rattle.scheduler.specs.AlikeDiaries.{AlikeShare, all-less, on-same, diaries-alike, diaries-same}
 
 pass : (x y z p q : Bool) → (p ≡ true → q ≡ true) → x && (y && (z && p)) ≡ true → x && (y && (z && q)) ≡ true
 pass true true true p q f h = f h

@@ -10,7 +10,7 @@ use lib.Dec.{leb, eqb}
 use borrow.Author.Tests.{leb-true, le-leb, eqb-true, eq-eqb}
 use Rattle.calendar.specs.declared.Calendar.{Calendar}
 use Rattle.calendar.specs.Basics.{and-split, and-join, not-both}
-use Rattle.calendar.specs.Search.{Found, nothing, at, leastFrom}
+use Rattle.calendar.specs.Search.{Found, nothing, at, leastFrom, greatestOf}
 use Rattle.calendar.specs.Fits.{fits}
 use Rattle.calendar.specs.Work.{lastChange, jointEnd}
 use Rattle.timeline.specs.Earliest.{lastEvent}
@@ -34,8 +34,8 @@ use Rattle.scheduler.specs.Lists.{Each, each-end, each-on, each-left, ea
 use Rattle.scheduler.specs.Ranking.{length-sort}
 use Rattle.scheduler.specs.Events.{among-append}
 use Rattle.scheduler.specs.Alike.{Alike, NoExtra}
-use Rattle.scheduler.specs.Lending.{AlikeShare, all-less, all-free-less, diaries-alike, diaries-same}
-use Rattle.scheduler.specs.Twins.{Twin, twins, Clean, companions-twin, duration-twin, setup-twin, starts-less, starts-same}
+use Rattle.scheduler.specs.AlikeDiaries.{AlikeShare, all-less, all-free-less, diaries-alike, diaries-same}
+use Rattle.scheduler.specs.AlikeResources.{Twin, twins, Clean, companions-twin, duration-twin, setup-twin, starts-less, starts-same}
 use Rattle.scheduler.specs.Dropping.{Sub, sub-end, sub-keep, sub-drop, sub-sort, sub-take}
 use Rattle.scheduler.specs.Tests.{or-in-left, or-in-right, or-cases, both-ways}
 
@@ -227,7 +227,7 @@ module _ (b c : Board) (k : Alike b c) where
   calendars-same (e ∷ es) = rw (diaries-alike b c k (e .number) .calendar-same, calendars-same es) refl
 
   last-same : (es : List Entry) → Each (λ e. NoExtra b c (e .number)) es → lastOf (sharesOf b es) ≡ lastOf (sharesOf c es)
-  unfolding lastOf lastEvent
+  unfolding lastOf lastEvent greatestOf
   last-same [] each-end = refl
   last-same (e ∷ es) (each-on p z) =
       let w = diaries-alike b c k (e .number) in
