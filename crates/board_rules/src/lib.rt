@@ -38,7 +38,7 @@ pub fn places_of(b: Board) -> Places
     while i < 16 {
         let r = b.resources[i];
         if i < len {
-            if !rules::resource_right(r) {
+            if !resource_rules::cell_right(r, true) {
                 return wrong;
             }
             let number = r.number as usize;
@@ -47,7 +47,7 @@ pub fn places_of(b: Board) -> Places
             }
             places[number] = i;
         } else {
-            if !rules::resource_blank(r) {
+            if !resource_rules::cell_right(r, false) {
                 return wrong;
             }
         }

@@ -40,17 +40,17 @@ mul-r c = search needs
 element-copy-out-r : tie.Need-element-copy-out-r Inv-loop μ-loop
 element-copy-out-r c = search needs
 
-resource-right-requires : tie.Need-resource-right-requires Inv-loop μ-loop
-resource-right-requires c κs = search needs
+cell-right-requires : tie.Need-cell-right-requires Inv-loop μ-loop
+cell-right-requires c κs = search needs
 
 returns-2 : tie.Need-returns-2 Inv-loop μ-loop
 returns-2 c =
-    let e = sym (c .before .resource-right .ensures) ∙ not-true _ (c .if3 .taken) in
+    let e = sym (c .before .cell-right .ensures) ∙ not-true _ (c .if3 .taken) in
     refuted _ (replicate 16 16) (replicate 16 0) (valid-stop _ _ (c .before .before .before .before .loop-test .taken) (c .before .before .before .before .before .loop .inv .4) (cell-wrong _ _ (omega arith) e))
 
 cast-number : tie.Need-cast-number Inv-loop μ-loop
 cast-number c =
-    let e = sym (c .before .before .resource-right .ensures) ∙ not-false _ (c .before .if3 .left) in
+    let e = sym (c .before .before .cell-right .ensures) ∙ not-false _ (c .before .if3 .left) in
     search needs
 
 mul-if4 : tie.Need-mul-if4 Inv-loop μ-loop
@@ -58,12 +58,12 @@ mul-if4 c = search needs
 
 array-read-if4 : tie.Need-array-read-if4 Inv-loop μ-loop
 array-read-if4 c =
-    let e = sym (c .before .before .resource-right .ensures) ∙ not-false _ (c .before .if3 .left) in
+    let e = sym (c .before .before .cell-right .ensures) ∙ not-false _ (c .before .if3 .left) in
     omega (arith, resource-number _ e, c .before .before .before .before .before .before .loop .inv .3 .long)
 
 returns-3 : tie.Need-returns-3 Inv-loop μ-loop
 returns-3 c =
-    let e = sym (c .before .before .before .resource-right .ensures) ∙ not-false _ (c .before .before .if3 .left) in
+    let e = sym (c .before .before .before .cell-right .ensures) ∙ not-false _ (c .before .before .if3 .left) in
     let d = seen-at (c .before .before .before .before .before .before .before .before .before .args .t1) (c .before .before .before .before .before .before .before .loop .i) (numberAt (c .before .before .before .before .before .before .before .before .before .args .t1) (c .before .before .before .before .before .before .before .loop .i)) (c .before .before .before .before .before .before .before .loop .places) (c .before .before .before .before .before .before .before .loop .inv .3) (omega arith) (omega arith) (omega (arith, resource-number _ e)) in
     refuted _ (replicate 16 16) (replicate 16 0) (valid-stop _ _ (c .before .before .before .before .before .before .loop-test .taken) (c .before .before .before .before .before .before .before .loop .inv .4) (cell-twice _ _ (omega arith) e (sym d ∙ lt-ltb _ _ (c .if4 .taken))))
 
@@ -72,15 +72,15 @@ mul-places c = search needs
 
 array-write-places : tie.Need-array-write-places Inv-loop μ-loop
 array-write-places c =
-    let e = sym (c .before .before .before .resource-right .ensures) ∙ not-false _ (c .before .before .if3 .left) in
+    let e = sym (c .before .before .before .cell-right .ensures) ∙ not-false _ (c .before .before .if3 .left) in
     omega (arith, resource-number _ e, c .before .before .before .before .before .before .before .loop .inv .3 .long)
 
-resource-blank-requires : tie.Need-resource-blank-requires Inv-loop μ-loop
-resource-blank-requires c κs = search needs
+cell-right-requires-2 : tie.Need-cell-right-requires-2 Inv-loop μ-loop
+cell-right-requires-2 c κs = search needs
 
 returns-4 : tie.Need-returns-4 Inv-loop μ-loop
 returns-4 c =
-    let e = sym (c .before .resource-blank .ensures) ∙ not-true _ (c .if5 .taken) in
+    let e = sym (c .before .cell-right2 .ensures) ∙ not-true _ (c .if5 .taken) in
     refuted _ (replicate 16 16) (replicate 16 0) (valid-stop _ _ (c .before .before .before .before .loop-test .taken) (c .before .before .before .before .before .loop .inv .4) (cell-past _ _ (omega arith) ∙ e))
 
 mul-lens : tie.Need-mul-lens Inv-loop μ-loop
@@ -124,4 +124,4 @@ returns-5 c =
 pub places-of-spec : {M : Type 1} → statement M
 places-of-spec =
     tie.close
-    (tie.spec Inv-loop μ-loop returns loop-holds mul-r element-copy-out-r resource-right-requires returns-2 cast-number mul-if4 array-read-if4 returns-3 mul-places array-write-places resource-blank-requires returns-4 mul-lens array-write-lens add-i loop-less loop-again transport-right-requires returns-5)
+    (tie.spec Inv-loop μ-loop returns loop-holds mul-r element-copy-out-r cell-right-requires returns-2 cast-number mul-if4 array-read-if4 returns-3 mul-places array-write-places cell-right-requires-2 returns-4 mul-lens array-write-lens add-i loop-less loop-again transport-right-requires returns-5)
