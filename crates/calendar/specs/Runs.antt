@@ -1,7 +1,6 @@
 -- Edges of working time, on the definitions: a pause, work 0, too little time left, two calendars together.
 use mathlib.Core.Path.{_≡_, refl}
 use mathlib.Core.List.{[], _∷_}
-use Prim.Native.Nat.{_+_}
 use Rattle.calendar.specs.declared.Calendar.{Calendar}
 use Rattle.calendar.specs.Search.{nothing, at, leastFrom, greatestOf}
 use Rattle.calendar.specs.Spans.{spansFrom, any, holds, meets, contains}

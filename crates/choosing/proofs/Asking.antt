@@ -1,16 +1,15 @@
 -- What a resource and its companions are asked by its plan, one after another, is what the definition asks of them.
-use mathlib.Core.Path.{_≡_, refl, sym, ap, _∙_, subst}
-use mathlib.Core.Bool.{Bool, true, false, _&&_, _||_, cond}
-use mathlib.Core.List.{List, _∷_, _++_, map}
+use mathlib.Core.Path.{_≡_, refl, sym, ap, _∙_}
+use mathlib.Core.Bool.{Bool, true, false, _&&_, cond}
+use mathlib.Core.List.{List, map}
 use mathlib.Core.Logic.{_⊎_, inl, inr, ⊎-elim}
-use Prim.Native.Nat.{ℕ, _+_, _-_, _*_, _/_, _%_, _^_, _≤_, _<_, max}
+use Prim.Native.Nat.{ℕ, _+_, _-_, _*_, _^_, _≤_, _<_, max}
 use native.Mathlib.Omega.{arith}
-use lib.ListN.{getD, set, length, take, length-map, length-take, length-set}
-use lib.Seq.{getD-set-same}
+use lib.ListN.{getD, length, length-map, length-take}
 use lib.Dec.{ltb, eqb}
-use borrow.Author.Tests.{ltb-true, le-ltb}
+use borrow.Author.Tests.{ltb-true}
 use Rattle.calendar.specs.Every.{every}
-use Rattle.calendar.specs.Basics.{and-split, not-both}
+use Rattle.calendar.specs.Basics.{and-split}
 use Rattle.calendar.specs.Search.{Found, nothing, at}
 use Rattle.timeline.specs.declared.ResourceTimeline.{ResourceTimeline}
 use Rattle.timeline.specs.Valid as timeline
@@ -32,12 +31,12 @@ use Rattle.scheduler.specs.Ruled.{eventsOn, event-on, points}
 use Rattle.scheduler.specs.Tests.{or-in-right}
 use Rattle.scheduler.specs.Asking.{nextAsked, Asked, asked-start, asked-on, asked-none, asked-listed, asked-less, asked-all}
 use Rattle.plans.specs.declared.Plan.{Plan}
-use Rattle.plans.specs.Plans.{noPlan, planWith, planOf, Planned}
+use Rattle.plans.specs.Plans.{planWith, planOf}
 use Rattle.seats.specs.Seats.{Known, seatOf}
 use Rattle.seats.proofs.Seating.{seat-none, seat-there, seat-diary, seat-units}
 use Rattle.together.specs.declared.Asking.{Asking}
 use Rattle.together.specs.Steps.{answeredBy}
-use Rattle.answering.specs.Tables.{foundAt, numberOf, requirementAt}
+use Rattle.answering.specs.Tables.{foundAt, numberOf}
 use Rattle.answering.proofs.Finding.{span-range, arrival-range}
 use Rattle.members.specs.declared.Member.{Member}
 use Rattle.members.specs.Members.{memberOf}

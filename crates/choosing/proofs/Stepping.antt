@@ -25,7 +25,7 @@ use Rattle.plans.specs.declared.Plan.{Plan}
 use Rattle.plans.specs.Plans.{noPlan, planWith, planOf, Planned}
 use Rattle.plans.proofs.Planning.{planned-next}
 use Rattle.together.specs.declared.Asking.{Asking}
-use Rattle.answering.specs.Tables.{requirementAt, foundAt, numberOf, Kept, Answered}
+use Rattle.answering.specs.Tables.{requirementAt, foundAt, Kept, Answered}
 use Rattle.answering.proofs.Finding.{used-some}
 use Rattle.answering.proofs.Noting.{Through, through-start, kept-none, cell-known, kept-asked, through-asked}
 use Rattle.rounds.specs.declared.Rounds.{Rounds}

@@ -1,44 +1,33 @@
 -- The entries of a choice are for resources on the board, with a unit or more each.
-use mathlib.Core.Path.{_≡_, refl, sym, subst}
+use mathlib.Core.Path.{_≡_, sym, subst}
 use mathlib.Core.Bool.{true}
 use mathlib.Core.List.{List, [], _∷_, map}
 use Prim.Native.Nat.{ℕ, _≤_, _<_}
 use native.Mathlib.Omega.{arith}
 use lib.ListN.{length, getD, take}
 use lib.Seq.{getD-take, length-take-le}
-use Rattle.calendar.specs.Search.{Found, nothing, at}
+use Rattle.calendar.specs.Search.{at}
 use Rattle.timeline.specs.Valid as timeline
 use Rattle.timeline.proofs.Rules as timeline-rules
 use Rattle.activity.specs.declared.ResourceRequirement.{ResourceRequirement}
 use Rattle.activity.specs.declared.Activity.{Activity}
 use Rattle.activity.specs.Check.{requirementsOf, activityRefusal}
 use Rattle.board.specs.declared.Board.{Board}
-use Rattle.board.specs.Resources.{noResource, lookup, isAt, onBoard}
+use Rattle.board.specs.Resources.{onBoard}
 use Rattle.board.specs.Valid.{valid}
 use Rattle.scheduler.specs.declared.Entry.{Entry}
 use Rattle.scheduler.specs.declared.Hold.{Hold}
-use Rattle.scheduler.specs.Alone.{diaryOf, resourceIn}
 use Rattle.scheduler.specs.Choosing.{Held, chosen, choosing}
-use Rattle.scheduler.specs.Fitting.{heldEntries, durationTogether, companionEntry, companionEntries, joinEach, numbersOf, allCompanions, entriesOf, sharesOf}
+use Rattle.scheduler.specs.Fitting.{heldEntries, durationTogether, companionEntry, companionEntries, joinEach, numbersOf, allCompanions, entriesOf}
 use Rattle.scheduler.specs.Holds.{noHold, heldOf, heldTo, OnPlaces}
 use Rattle.scheduler.specs.Lists.{Each, each-end, each-on, each-append}
 use Rattle.scheduler.specs.Arrays.{each-at, each-cells}
-use Rattle.scheduler.specs.Together.{Sound}
 use Rattle.scheduler.specs.Chosen.{Chooses}
 use Rattle.scheduler.specs.Plain.{enough, heldAt}
 use Rattle.scheduler.specs.Meaning.{choosing-means, some-of-each}
-use Rattle.scheduler.specs.Reported.{held-at-whole, entries-sound}
+use Rattle.scheduler.specs.Reported.{held-at-whole, entries-on}
 use Rattle.entries.specs.Parts.{noEntry}
 use Rattle.placing.specs.Steps.{EntriesOn}
-
--- only a diary on the board keeps the rules
-on-if-valid : (b : Board) (n : ℕ) → timeline.valid (diaryOf b n) ≡ true → onBoard b n ≡ true
-unfolding resourceIn isAt
-on-if-valid b n v = go (lookup b n) v
-  where
-    go : (f : Found) → timeline.valid (resourceIn b f .timeline) ≡ true → isAt f ≡ true
-    go nothing w = absurd (omega (arith, timeline-rules.rules (noResource .timeline) w .some))
-    go (at i) w = refl
 
 module _ (a : Activity) where
   held-some : (category setup : ℕ) (hs : List Held) → Each (λ h. 1 ≤ h .usage) hs → Each (λ e. 1 ≤ e .units) (heldEntries category setup hs)
@@ -62,27 +51,17 @@ held-usage b [] each-end = each-end
 held-usage b (h ∷ hs) (each-on p z) = each-on p (held-usage b hs z)
 
 module _ (b : Board) (v : valid b ≡ true) (a : Activity) (ready t : ℕ) (lawful : activityRefusal a ready ≡ 0) (q : ResourceRequirement) (qs : List ResourceRequirement) (asks : requirementsOf a ≡ q ∷ qs) where
-  sound : (hs : List Held) → choosing b a ready ≡ chosen t hs → Sound (sharesOf b (entriesOf a hs))
-  sound hs e =
+  all-on : (hs : List Held) → choosing b a ready ≡ chosen t hs → Each (λ e. onBoard b (e .number) ≡ true) (entriesOf a hs)
+  all-on hs e =
       let w : Chooses (enough b a ready (q ∷ qs)) (heldAt b a ready (q ∷ qs)) ready (chosen t hs) = subst (Chooses (enough b a ready (q ∷ qs)) (heldAt b a ready (q ∷ qs)) ready) e (choosing-means b v a ready q qs asks (some-of-each a ready q qs asks lawful)) in
-      subst (λ (l : List Held). Sound (sharesOf b (entriesOf a l))) (sym (w .1)) (entries-sound b v a (heldAt b a ready (q ∷ qs) t) (held-at-whole b a ready v (q ∷ qs) t))
+      subst (λ (l : List Held). Each (λ e. onBoard b (e .number) ≡ true) (entriesOf a l)) (sym (w .1)) (entries-on b a (heldAt b a ready (q ∷ qs) t) (held-at-whole b a ready v (q ∷ qs) t))
 
   module _ (hs : List Hold) (m : ℕ) (places : OnPlaces b hs m) (few : m ≤ length hs) (e : choosing b a ready ≡ chosen t (heldTo b hs m)) (es : List Entry) (n : ℕ) (l : n ≤ 24) (long : length es ≡ 24) (f : take n es ≡ entriesOf a (heldTo b hs m)) where
     on : (k : ℕ) → k < n → onBoard b (getD es k noEntry .number) ≡ true
     on k i =
         let z : length (take n es) ≡ n = length-take-le n es (omega (arith, long)) in
-        let w : Sound (sharesOf b (take n es)) = subst (λ (xs : List Entry). Sound (sharesOf b xs)) (sym f) (sound (heldTo b hs m) e) in
-        on-if-valid b (getD es k noEntry .number) (go (take n es) w k (omega (arith, z)) (getD-take n es k noEntry i))
-      where
-        go : (xs : List Entry) → Sound (sharesOf b xs) → (j : ℕ) → j < length xs → getD xs j noEntry ≡ getD es k noEntry → timeline.valid (diaryOf b (getD es k noEntry .number)) ≡ true
-        go xs w j h g = rw g at (diary-at xs w j h)
-          where
-            diary-at : (ys : List Entry) → Sound (sharesOf b ys) → (i : ℕ) → i < length ys → timeline.valid (diaryOf b (getD ys i noEntry .number)) ≡ true
-            diary-at ys s i r = each-at (λ y. timeline.valid (diaryOf b (y .number)) ≡ true) noEntry ys (unmap ys s) i r
-              where
-                unmap : (zs : List Entry) → Sound (sharesOf b zs) → Each (λ y. timeline.valid (diaryOf b (y .number)) ≡ true) zs
-                unmap [] each-end = each-end
-                unmap (x ∷ zs) (each-on p r) = each-on p (unmap zs r)
+        let w = subst (Each (λ y. onBoard b (y .number) ≡ true)) (sym f) (all-on (heldTo b hs m) e) in
+        rw (getD-take n es k noEntry i) at (each-at (λ y. onBoard b (y .number) ≡ true) noEntry (take n es) w k (omega (arith, z)))
 
     units : (k : ℕ) → k < n → 1 ≤ getD es k noEntry .units
     units k i =

@@ -1,12 +1,11 @@
 -- The candidates, place by place: sorted as they come in board order, and those of the definition.
 use mathlib.Core.Path.{_≡_, refl, sym, ap, _∙_, subst}
-use mathlib.Core.Bool.{Bool, true, false, cond}
+use mathlib.Core.Bool.{true, cond}
 use mathlib.Core.List.{List, [], _∷_, _++_, map, append-assoc, append-nil}
 use Prim.Native.Nat.{ℕ, zero, suc, _+_, _-_, _^_, _≤_, _<_}
 use native.Mathlib.Omega.{arith}
-use lib.ListN.{getD, length, take}
+use lib.ListN.{length, take}
 use lib.Seq.{take-suc}
-use Rattle.calendar.specs.Search.{Found, nothing}
 use Rattle.timeline.proofs.Rules as timeline-rules
 use Rattle.activity.specs.declared.ResourceRequirement.{ResourceRequirement}
 use Rattle.activity.specs.declared.Activity.{Activity}
@@ -17,16 +16,18 @@ use Rattle.board.specs.declared.Board.{Board}
 use Rattle.board.specs.Resources.{noResource, resourceAt}
 use Rattle.board.specs.Valid as board
 use Rattle.scheduler.specs.Alone.{durationAlone, startAlone}
+use Rattle.scheduler.specs.Answering.{told}
 use Rattle.scheduler.specs.Choosing as scheduler
 use Rattle.scheduler.specs.Lists.{Each, each-end}
 use Rattle.scheduler.specs.Ruled.{all-there}
 use Rattle.rounds.specs.declared.rank.Candidate.{Candidate}
 use Rattle.rounds.specs.declared.rank.Ranked.{Ranked}
-use Rattle.rounds.specs.Named.{candidateOf, rankedOf, putIn}
+use Rattle.rounds.specs.Named.{candidateOf, rankedOf, putIn, precedes}
 use Rattle.answering.specs.Tables.{foundAt, numberOf}
 use Rattle.answering.proofs.Finding.{number-at, number-none, found-range}
 use Rattle.rounds.specs.Rounds.{answerAt, answersTo, Fair}
-use Rattle.rounds.proofs.Inserting.{each-put, put-is}
+use Rattle.rounds.proofs.Inserting.{put-is}
+use Rattle.scheduler.specs.Ranking.{each-insert}
 
 -- sorted: one behind the other
 sort-more : (s cs ds : List scheduler.Candidate) → scheduler.sortInto s (cs ++ ds) ≡ scheduler.sortInto (scheduler.sortInto s cs) ds
@@ -63,7 +64,7 @@ module _ (b : Board) (a : Activity) (ready : ℕ) (q : ResourceRequirement) (t :
   sorted-on i k r c s e f n w = record {
     few = omega (arith, s .few);
     so = ap (map (candidateOf b)) w ∙ put-is b c (take (k .count) (k .candidates)) ∙ ap (scheduler.insert (candidateOf b c)) (s .so) ∙ sym (next i ∙ ap (scheduler.sortInto (scheduler.sort (answersTo b a ready q t i))) e);
-    fair = subst (Each (Fair b)) (sym w) (each-put (Fair b) c (take (k .count) (k .candidates)) f (s .fair));
+    fair = subst (Each (Fair b)) (sym w) (each-insert precedes (Fair b) c (take (k .count) (k .candidates)) f (s .fair));
   }
 
 -- they are those of the definition
@@ -77,11 +78,7 @@ candidates-more b a ready q t (r ∷ rs) ss =
 module _ (b : Board) (v : board.valid b ≡ true) (a : Activity) (ready : ℕ) (q : ResourceRequirement) (t : ℕ) where
   answer-is : (i : ℕ) → i < b .len → answerAt b a ready q t i ≡ scheduler.candidates b a ready q t (resourceAt b i ∷ [])
   unfolding answerAt foundAt scheduler.answer scheduler.candidates
-  answer-is i l = go (serves q (resourceAt b i .number) (resourceAt b i .kind) (resourceAt b i .skills)) _ _ ∙ sym (append-nil _)
-    where
-      go : (c : Bool) (r : Resource) (f : Found) → scheduler.answer (durationAlone a r .process) r (cond c f nothing) ≡ cond c (scheduler.answer (durationAlone a r .process) r f) []
-      go true r f = refl
-      go false r f = refl
+  answer-is i l = sym (told b a ready q (resourceAt b i) (serves q (resourceAt b i .number) (resourceAt b i .kind) (resourceAt b i .skills)) (startAlone b a ready q (resourceAt b i) t)) ∙ sym (append-nil _)
 
   pub answers-to : (n : ℕ) → n ≤ b .len → answersTo b a ready q t n ≡ scheduler.candidates b a ready q t (take n (b .resources))
   unfolding answersTo scheduler.candidates

@@ -2,12 +2,13 @@
 use mathlib.Core.Path.{_≡_, refl, sym, ap, _∙_, subst}
 use mathlib.Core.Bool.{true, false, cond}
 use mathlib.Core.List.{List, [], _∷_}
-use Prim.Native.Nat.{ℕ, suc, _+_, _-_, _^_, _≤_, _<_}
+use Prim.Native.Nat.{ℕ, suc, _-_, _^_, _≤_, _<_}
 use native.Mathlib.Omega.{arith}
 use lib.ListN.{getD, length, take}
 use lib.Seq.{getD-take, length-take-le}
 use lib.Dec.{eqb}
 use borrow.Author.Tests.{eq-eqb, ne-eqb}
+use Rattle.calendar.specs.Search.{greatestOf}
 use Rattle.calendar.specs.Basics.{not-both}
 use Rattle.activity.specs.declared.Activity.{Activity}
 use Rattle.activity.specs.Check.{requirementsOf, activityRefusal}
@@ -71,7 +72,7 @@ module _ (b : Board) (a : Activity) (ready t : ℕ) (k : Led b a ready t) (h : H
 
 -- those held start by 2^43
 pub latest-soon : (b : Board) (hs : List Hold) → Each (Lasting b) hs → latestStart hs ≤ 2 ^ 43
-unfolding latestStart
+unfolding latestStart greatestOf
 latest-soon b [] each-end = omega arith
 latest-soon b (h ∷ hs) (each-on f a) = omega (arith, f .soon, latest-soon b hs a)
 

@@ -1,6 +1,6 @@
 -- 'Choosing', its first half: what each serving resource answers alone, with its companions.
 use Prim.Native.Nat.{ℕ, suc, _+_, _-_, max}
-use mathlib.Core.Bool.{Bool, true, _&&_, cond}
+use mathlib.Core.Bool.{Bool, cond}
 use mathlib.Core.List.{List, [], _∷_, map}
 use lib.ListN.{take}
 use Rattle.calendar.specs.Search.{Found, nothing, at, leastFrom, greatestOf}

@@ -10,7 +10,7 @@ use lib.ListN.{length}
 use lib.Dec.{leb, eqb}
 use borrow.Author.Tests.{eqb-true, eqb-false, leb-true, le-leb}
 use Rattle.calendar.specs.Basics.{and-split, and-join, no-way, lt-or-ge}
-use Rattle.calendar.specs.Search.{Found, nothing, at}
+use Rattle.calendar.specs.Search.{Found, nothing, at, greatestOf}
 use Rattle.timeline.proofs.Searching.{Sought, sought-start}
 use Rattle.timeline.proofs.Meaning.{Earliest}
 use Rattle.activity.specs.declared.ResourceRequirement.{ResourceRequirement}
@@ -35,7 +35,7 @@ use Rattle.scheduler.specs.Tests.{or-left, or-right}
 
 -- the greatest start is one of the starts
 greatest-is : (P : ℕ → Type 0) (hs : List Held) → Each (λ h. P (h .start)) hs → 1 ≤ length hs → P (greatestStart hs)
-unfolding greatestStart
+unfolding greatestStart greatestOf
 greatest-is P [] a l = absurd (omega arith)
 greatest-is P (h ∷ []) (each-on p a) l = let e : max (h .start) 0 ≡ h .start = omega arith in rw e p
 greatest-is P (h ∷ k ∷ hs) (each-on p a) l = go (greatestStart (k ∷ hs)) (greatest-is P (k ∷ hs) a (omega arith))

@@ -33,7 +33,7 @@ use Rattle.scheduler.specs.Together.{Sound}
 use Rattle.scheduler.specs.Answering.{Answers, answers-same}
 use Rattle.scheduler.specs.Events.{events, eventsOf, among-append, above, above-falls, above-length}
 use Rattle.scheduler.specs.Chosen.{Chooses, round-falls, rounds-mean}
-use Rattle.scheduler.specs.Ruled.{eventsOn, on-event, on-valid, all-kept, all-listed, points, points-length, events-board}
+use Rattle.scheduler.specs.Ruled.{eventsOn, on-event, all-kept, all-listed, points, points-length, events-board, entries-valid}
 use Rattle.scheduler.specs.Closing.{fitting-answers}
 use Rattle.scheduler.specs.Latest.{latestOf, Step, Latest, latest-says, sought-past, sought-never, together-answers, events-count}
 use Rattle.scheduler.specs.Owning.{ownShare, own-valid, suitsOn, suits-on}
@@ -141,16 +141,12 @@ module _ (b : Board) (v : board.valid b ≡ true) (own : Calendar) (w : calendar
       (λ (k : among x (eventsOf (sharesOf b es)) ≡ true). entry-events es os x k)
       (or-cases (among x (events (diaryOf b (e .number)))) (among x (eventsOf (sharesOf b es))) (sym (among-append x (events (diaryOf b (e .number))) (eventsOf (sharesOf b es))) ∙ h))
 
-  entries-valid : (es : List Entry) → Each (λ e. onBoard b (e .number) ≡ true) es → Sound (sharesOf b es)
-  entries-valid [] each-end = each-end
-  entries-valid (e ∷ es) (each-on o os) = each-on (on-valid b v (e .number) o) (entries-valid es os)
-
   -- The closing fit of unbroken work: any number above 2,112 gives the least start that suits all.
   pub closing-rounds : (es : List Entry) → Each (λ e. onBoard b (e .number) ≡ true) es → (span t n : ℕ) → 2112 < n → steps n (latestOf false span (ownShare own ∷ sharesOf b es)) t ≡ fitting false (sharesOf b es) own span t
   unfolding suitsOn eventsOf
   closing-rounds es on span t n h =
       let ys = ownShare own ∷ sharesOf b es in
-      let sound : Sound ys = each-on (own-valid own w) (entries-valid es on) in
+      let sound : Sound ys = each-on (own-valid own w) (entries-valid b v es on) in
       let wider : (x : ℕ) → among x (eventsOf ys) ≡ true → among x closingPoints ≡ true = λ x k.
       among-append x (events (ownShare own .timeline)) (eventsOn (resourcesOf b))
       ∙ ⊎-elim
@@ -159,4 +155,4 @@ module _ (b : Board) (v : board.valid b ≡ true) (own : Calendar) (w : calendar
       (or-cases (among x (events (ownShare own .timeline))) (among x (eventsOf (sharesOf b es))) (sym (among-append x (events (ownShare own .timeline)) (eventsOf (sharesOf b es))) ∙ k)) in
       answers-same (allStart false span ys) (suits false (sharesOf b es) own span) t (steps n (latestOf false span ys) t) (fitting false (sharesOf b es) own span t) (λ x l. sym (suits-on false (sharesOf b es) own span x))
       (steps-mean (allStart false span ys) (latestOf false span ys) closingPoints (λ u. latest-wider (allStart false span ys) (eventsOf ys) closingPoints u (latestOf false span ys u) wider (latest-says false span ys u sound)) t n (omega (arith, closing-length)))
-      (fitting-answers false (sharesOf b es) own span t (entries-valid es on) w)
+      (fitting-answers false (sharesOf b es) own span t (entries-valid b v es on) w)

@@ -9,7 +9,7 @@ use lib.ListN.{length, take}
 use lib.Dec.{ltb, eqb}
 use borrow.Author.Tests.{ltb-true, ltb-false, lt-ltb, le-ltb, eqb-true, eqb-false, eq-eqb}
 use Rattle.calendar.specs.Basics.{not-both}
-use Rattle.scheduler.specs.Choosing.{Candidate, comesFirst, insert, sortInto, sort}
+use Rattle.scheduler.specs.Choosing.{Candidate, comesFirst, insert, sortInto, sort, insertBy}
 use Rattle.scheduler.specs.Lists.{Each, each-end, each-on, each-map, Pairs, pairs-end, pairs-on}
 use Rattle.scheduler.specs.Ranking.{each-insert}
 
@@ -63,7 +63,7 @@ pub data Sorted : List Candidate → Type 0 where
   sorted-on : {d : Candidate} → {ds : List Candidate} → Each (λ e. Not e d) ds → Sorted ds → Sorted (d ∷ ds)
 
 insert-sorted : (c : Candidate) (ds : List Candidate) → Sorted ds → Sorted (insert c ds)
-unfolding insert
+unfolding insertBy
 insert-sorted c [] sorted-end = sorted-on each-end sorted-end
 insert-sorted c (d ∷ ds) (sorted-on a s) = go (comesFirst c d) refl (insert-sorted c ds s)
   where
@@ -71,7 +71,7 @@ insert-sorted c (d ∷ ds) (sorted-on a s) = go (comesFirst c d) refl (insert-so
     go true e r =
         let f = first-says c d e in
         sorted-on (each-on (turned c d f) (each-map (λ e. Not e d) (λ e. Not e c) ds (λ e n. turned c e (onward c d e f n)) a)) (sorted-on a s)
-    go false e r = sorted-on (each-insert (λ e. Not e d) c ds (not-says c d e) a) r
+    go false e r = sorted-on (each-insert comesFirst (λ e. Not e d) c ds (not-says c d e) a) r
 
 -- the second list is the first with some that have D left out, the others related by R
 pub data Sub (D : Candidate → Type 0) (R : Candidate → Candidate → Type 0) : List Candidate → List Candidate → Type 0 where
@@ -85,13 +85,13 @@ module _ (D : Candidate → Type 0) (R : Candidate → Candidate → Type 0) (st
   same-order x y d e p q = rw (starts x y p, times x y p, starts d e q, times d e q) refl
 
   leads : (x y : Candidate) (ds ys : List Candidate) → R x y → Each (λ e. First x e) ds → Sub D R ds ys → insert y ys ≡ y ∷ ys
-  unfolding insert
+  unfolding insertBy
   leads x y [] [] p each-end sub-end = refl
   leads x y (d ∷ ds) (e ∷ ys) p (each-on f a) (sub-keep r s) = rw (sym (same-order x y d e p r) ∙ first-is x d f) refl
   leads x y (d ∷ ds) ys p (each-on f a) (sub-drop k s) = leads x y ds ys p a s
 
   sub-insert : (x y : Candidate) (xs ys : List Candidate) → R x y → Sorted xs → Sub D R xs ys → Sub D R (insert x xs) (insert y ys)
-  unfolding insert
+  unfolding insertBy
   sub-insert x y [] [] p sorted-end sub-end = sub-keep p sub-end
   sub-insert x y (d ∷ ds) (e ∷ ys) p (sorted-on a o) (sub-keep r s) = go (comesFirst x d) (comesFirst y e) (same-order x y d e p r) (sub-insert x y ds ys p o s)
     where
@@ -109,7 +109,7 @@ module _ (D : Candidate → Type 0) (R : Candidate → Candidate → Type 0) (st
       go false h i = sub-drop k i
 
   sub-without : (x : Candidate) (xs ys : List Candidate) → D x → Sub D R xs ys → Sub D R (insert x xs) ys
-  unfolding insert
+  unfolding insertBy
   sub-without x [] [] k sub-end = sub-drop k sub-end
   sub-without x (d ∷ ds) (e ∷ ys) k (sub-keep r s) = go (comesFirst x d) (sub-without x ds ys k s)
     where

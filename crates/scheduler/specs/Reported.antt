@@ -1,7 +1,7 @@
 -- The resources of a placement are on the board, so that their diaries keep the rules.
-use mathlib.Core.Path.{_≡_, refl, sym, ap, subst}
+use mathlib.Core.Path.{_≡_, refl, ap}
 use mathlib.Core.Bool.{Bool, true, false, _||_, cond}
-use mathlib.Core.List.{List, [], _∷_, _++_, map, map-append}
+use mathlib.Core.List.{List, [], _∷_, _++_, map}
 use Prim.Native.Nat.{ℕ}
 use lib.ListN.{take}
 use Rattle.calendar.specs.Basics.{and-split}
@@ -17,13 +17,13 @@ use Rattle.board.proofs.Meaning.{lookup-is}
 use Rattle.timeline.specs.Valid as timeline
 use Rattle.scheduler.specs.Alone.{companionsOf}
 use Rattle.scheduler.specs.Choosing.{Candidate, sort, Held, heldFor, holdFirst}
-use Rattle.scheduler.specs.Fitting.{numbersOf, durationTogether, heldEntries, among, joinEach, allCompanions, companionEntry, companionEntries, entriesOf, shareOf, sharesOf}
+use Rattle.scheduler.specs.Fitting.{numbersOf, durationTogether, heldEntries, among, joinEach, allCompanions, companionEntry, companionEntries, entriesOf, sharesOf}
 use Rattle.scheduler.specs.Plain.{startsThere, candidateAt, startable, heldAt}
 use Rattle.scheduler.specs.Lists.{Each, each-end, each-on, each-append, each-take}
 use Rattle.scheduler.specs.Arrays.{each-cells}
 use Rattle.scheduler.specs.Together.{Sound}
 use Rattle.scheduler.specs.Ranking.{each-sort}
-use Rattle.scheduler.specs.Ruled.{on-valid}
+use Rattle.scheduler.specs.Ruled.{entries-valid}
 
 module _ (b : Board) where
   -- a resource on the board whose companions are
@@ -81,19 +81,23 @@ module _ (b : Board) where
       go true x y = x
       go false x y = y
 
-  held-shares : (v : board.valid b ≡ true) (category setup : ℕ) (hs : List Held) → Each (λ h. Whole (h .resource)) hs → Sound (map (shareOf b) (heldEntries category setup hs))
-  held-shares v category setup [] each-end = each-end
-  held-shares v category setup (h ∷ hs) (each-on p z) = each-on (on-valid b v (h .resource .number) (p .itself)) (held-shares v category setup hs z)
+  held-on : (category setup : ℕ) (hs : List Held) → Each (λ h. Whole (h .resource)) hs → Each (λ e. On (e .number)) (heldEntries category setup hs)
+  held-on category setup [] each-end = each-end
+  held-on category setup (h ∷ hs) (each-on p z) = each-on (p .itself) (held-on category setup hs z)
 
-  companion-shares : (v : board.valid b ≡ true) (cs : List ℕ) → Each On cs → Sound (map (shareOf b) (map companionEntry cs))
-  companion-shares v [] each-end = each-end
-  companion-shares v (c ∷ cs) (each-on p z) = each-on (on-valid b v c p) (companion-shares v cs z)
+  joined-on : (cs : List ℕ) → Each On cs → Each (λ e. On (e .number)) (map companionEntry cs)
+  joined-on [] each-end = each-end
+  joined-on (c ∷ cs) (each-on p z) = each-on {x = companionEntry c} p (joined-on cs z)
 
-  -- the diaries of the entries keep the rules
-  pub entries-sound : (v : board.valid b ≡ true) (a : Activity) (hs : List Held) → Each (λ h. Whole (h .resource)) hs → Sound (sharesOf b (entriesOf a hs))
+  -- the entries are on the board
+  pub entries-on : (a : Activity) (hs : List Held) → Each (λ h. Whole (h .resource)) hs → Each (λ e. On (e .number)) (entriesOf a hs)
   unfolding entriesOf companionEntries
-  entries-sound v a hs z =
-      let E = heldEntries (a .category) (durationTogether a hs .setup) hs in
+  entries-on a hs z =
       let J = joinEach (numbersOf hs) [] (allCompanions hs) in
-      subst Sound (sym (map-append (shareOf b) E (map companionEntry J)))
-      (each-append (λ x. timeline.valid (x .timeline) ≡ true) (sharesOf b E) (sharesOf b (map companionEntry J)) (held-shares v (a .category) (durationTogether a hs .setup) hs z) (companion-shares v J (join-on (numbersOf hs) [] (allCompanions hs) each-end (companions-on hs z))))
+      each-append (λ e. On (e .number)) (heldEntries (a .category) (durationTogether a hs .setup) hs) (map companionEntry J)
+      (held-on (a .category) (durationTogether a hs .setup) hs z)
+      (joined-on J (join-on (numbersOf hs) [] (allCompanions hs) each-end (companions-on hs z)))
+
+  -- and their diaries keep the rules
+  pub entries-sound : (v : board.valid b ≡ true) (a : Activity) (hs : List Held) → Each (λ h. Whole (h .resource)) hs → Sound (sharesOf b (entriesOf a hs))
+  entries-sound v a hs z = entries-valid b v (entriesOf a hs) (entries-on a hs z)

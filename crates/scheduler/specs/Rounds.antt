@@ -8,6 +8,7 @@ use lib.ListN.{length, length-append, length-map, length-take, take}
 use lib.Seq.{take-append-le}
 use lib.Dec.{leb, ltb}
 use borrow.Author.Tests.{leb-true, le-leb, ltb-false, le-ltb}
+use Rattle.calendar.specs.Search.{greatestOf}
 use Rattle.calendar.specs.Basics.{and-split, and-join, not-both}
 use Rattle.activity.specs.declared.ResourceRequirement.{ResourceRequirement}
 use Rattle.activity.specs.declared.Activity.{Activity}
@@ -82,17 +83,17 @@ front t (suc k) [] (y ∷ ys) (each-on p h) (each-on r a) l = absurd (omega arit
 front t (suc k) (x ∷ xs) ys h (each-on r a) l = omega (arith, front t k xs ys h a (omega arith))
 
 pub greatest-le : (u : ℕ) (hs : List Held) → Each (λ h. h .start ≤ u) hs → greatestStart hs ≤ u
-unfolding greatestStart
+unfolding greatestStart greatestOf
 greatest-le u [] each-end = omega arith
 greatest-le u (h ∷ hs) (each-on p a) = omega (arith, greatest-le u hs a)
 
 pub greatest-each : (u : ℕ) (hs : List Held) → greatestStart hs ≤ u → Each (λ h. h .start ≤ u) hs
-unfolding greatestStart
+unfolding greatestStart greatestOf
 greatest-each u [] l = each-end
 greatest-each u (h ∷ hs) l = each-on {x = h} (omega arith) (greatest-each u hs (omega arith))
 
 pub greatest-ge : (t : ℕ) (hs : List Held) → Each (λ h. t ≤ h .start) hs → 1 ≤ length hs → t ≤ greatestStart hs
-unfolding greatestStart
+unfolding greatestStart greatestOf
 greatest-ge t [] each-end l = absurd (omega arith)
 greatest-ge t (h ∷ hs) (each-on p a) l = omega arith
 

@@ -24,7 +24,8 @@ use Rattle.board.specs.Valid as board
 use Rattle.board.proofs.Facts.{rules}
 use Rattle.board.proofs.Meaning.{lookup-means, resource-of}
 use Rattle.scheduler.specs.Alone.{resourceIn, diaryOf, oneUnit, companionsOf, withCompanions, arrival}
-use Rattle.scheduler.specs.Fitting.{among}
+use Rattle.scheduler.specs.declared.Entry.{Entry}
+use Rattle.scheduler.specs.Fitting.{among, sharesOf}
 use Rattle.scheduler.specs.Lists.{Each, each-end, each-on}
 use Rattle.scheduler.specs.Arrays.{each-cells}
 use Rattle.scheduler.specs.Together.{Sound}
@@ -117,6 +118,11 @@ module _ (b : Board) (v : board.valid b ≡ true) where
   on-valid n e =
       let w = on-place n e in
       ap timeline.valid (diary-at b n (w .0) (w .1)) ∙ diary-valid (w .0) (w .2)
+
+  -- so do the diaries of entries that are on the board
+  pub entries-valid : (es : List Entry) → Each (λ e. onBoard b (e .number) ≡ true) es → Sound (sharesOf b es)
+  entries-valid [] each-end = each-end
+  entries-valid (e ∷ es) (each-on o os) = each-on (on-valid (e .number) o) (entries-valid es os)
 
   pub on-event : (n x : ℕ) → onBoard b n ≡ true → among x (events (diaryOf b n)) ≡ true → among x (eventsOn (resourcesOf b)) ≡ true
   on-event n x e h =

@@ -1,6 +1,6 @@
 -- A resource and its companions by their places: the diaries there are theirs.
 use mathlib.Core.Path.{_≡_, refl, sym, ap, _∙_}
-use mathlib.Core.Bool.{Bool, true, false, _&&_, cond}
+use mathlib.Core.Bool.{Bool, true, false, cond}
 use mathlib.Core.List.{List, [], _∷_, _++_, map, map-append}
 use mathlib.Core.Logic.{⊎-elim}
 use Prim.Native.Nat.{ℕ, zero, suc, _+_, _≤_, _<_}
@@ -11,13 +11,12 @@ use lib.Dec.{ltb}
 use borrow.Author.Tests.{lt-ltb, le-ltb}
 use Rattle.calendar.specs.Every.{every}
 use Rattle.calendar.specs.Basics.{and-split, lt-or-ge}
-use Rattle.calendar.specs.Search.{Found, at}
+use Rattle.calendar.specs.Search.{Found}
 use Rattle.board.specs.declared.Resource.{Resource}
 use Rattle.board.specs.declared.Board.{Board}
-use Rattle.board.specs.Resources.{noDiary, lookup, isAt, onBoard, resourceAt}
+use Rattle.board.specs.Resources.{noDiary, isAt, onBoard, resourceAt}
 use Rattle.board.specs.Valid.{valid}
-use Rattle.board.proofs.Facts.{rules}
-use Rattle.board.proofs.Meaning.{resource-of, lookup-means}
+use Rattle.board.proofs.Meaning.{resource-of}
 use Rattle.scheduler.specs.Alone.{oneUnit, resourceIn, companionsOf, withCompanions}
 use Rattle.scheduler.specs.Arrays.{take-next, every-next, every-off}
 use Rattle.scheduler.specs.Shares.{timelinesOf, unitsOf}

@@ -3,10 +3,9 @@ use Rattle.choosing.proofs.choose.Statement.{statement}
 use Rattle.choosing.proofs.choose.Tie as tie
 use borrow.Author.Needs.{needs}
 use borrow.Author.Tests.{not-true, not-false}
-use mathlib.Core.Path.{_≡_, refl, sym, ap, _∙_}
-use mathlib.Core.Bool.{true, false}
+use mathlib.Core.Path.{_≡_, sym, ap, _∙_}
 use mathlib.Core.Logic.{⊎-elim}
-use Prim.Native.Nat.{ℕ, _+_, _*_, _/_, _%_, _≤_, _<_}
+use Prim.Native.Nat.{ℕ, _/_, _%_}
 use native.Mathlib.Omega.{arith}
 use lib.ListN.{getD, length, length-map}
 use Rattle.board.specs.Resources.{resourceAt}
@@ -15,12 +14,10 @@ use Rattle.board.proofs.Meaning.{resource-of}
 use Rattle.earliest.specs.Steps.{startOf}
 use Rattle.plans.specs.Plans.{noPlan, planWith}
 use Rattle.plans.proofs.Planning.{order-lawful, category-range, way-small, arrival-is}
-use Rattle.together.specs.Steps.{answeredBy}
 use Rattle.answering.specs.Tables.{requirementAt}
 use Rattle.rounds.specs.declared.Rounds.{Rounds}
-use Rattle.rounds.specs.declared.Choice.{Choice}
-use Rattle.choosing.proofs.Asking.{Next, Told, number-range, companions-range, span-small, count-is, there, diary-kept, units-some, from-small, told-nowhere, told-asked}
-use Rattle.choosing.proofs.Stepping.{idle, State, left, state-start, state-planned, left-planned, answers, state-settled, left-settled, state-known, left-known, next-asked, state-on, state-found, left-asked}
+use Rattle.choosing.proofs.Asking.{Next, Told, number-range, companions-range, span-small, count-is, diary-kept, units-some, from-small, told-nowhere, told-asked}
+use Rattle.choosing.proofs.Stepping.{State, left, state-start, state-planned, left-planned, answers, state-settled, left-settled, state-known, left-known, next-asked, state-on, state-found, left-asked}
 
 abbrev Inv-loop : tie.InvT-loop
 Inv-loop ready places b a plans₀ asked₀ starts₀ x₀ g₀ planned₀ k₀ plans asked starts x g planned k = State b a ready plans asked starts x g planned k
