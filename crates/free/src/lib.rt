@@ -4,31 +4,11 @@ use timeline::ResourceTimeline;
 ghost use mathlib.Core.Path.{_≡_};
 ghost use mathlib.Core.Bool.{true};
 ghost use Prim.Native.Nat.{_≤_};
-ghost use lib.ListN.{length};
-ghost use Rattle.work_ends.specs.Layout.{Rising};
 ghost use Rattle.timeline.specs.Bookings.{bookingsTo};
 ghost use Rattle.timeline.specs.Valid.{valid};
 ghost use Rattle.timeline.specs.Free.{load, free};
 ghost use Rattle.timeline.specs.Earliest.{freeOn};
-ghost use Rattle.timeline.specs.Steps.{overlapping, Before, Columns, From};
-
-// How many of the first n cells, which rise, are before x.
-pub fn cells_before(xs: &[u64], n: usize, x: u64) -> usize
-    requires { ⌜ (n ≤ length (now xs)) × (n ≤ 128) × Rising (now xs) n ⌝ }
-    ensures { λ r. ⌜ Before (now (xs .entry)) n x r ⌝ }
-{
-    let mut low: usize = 0;
-    let mut high = n;
-    while low < high {
-        let mid = low + (high - low) / 2;
-        if xs[mid] < x {
-            low = mid + 1;
-        } else {
-            high = mid;
-        }
-    }
-    low
-}
+ghost use Rattle.timeline.specs.Steps.{overlapping, Columns, From};
 
 // The units of the bookings that overlap [s, e). None before cell `first` does, nor any from the first on that starts at e or later.
 fn units_over(
@@ -135,7 +115,7 @@ pub fn free_over(
     requires { ⌜ Columns (now starts) (now ends) (now units) (now latest) n ⌝ }
     ensures { λ r. ⌜ r ≡ free room (bookingsTo (now (starts .entry)) (now (ends .entry)) (now (units .entry)) n) 0 s e ⌝ }
 {
-    let first = cells_before(latest, n, s);
+    let first = work_ends::cells_before(latest, n, s);
     if units_over(starts, ends, units, n, first, s, e) <= room {
         return true;
     }

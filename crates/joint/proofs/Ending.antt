@@ -3,7 +3,7 @@ use mathlib.Core.Path.{_≡_, refl, sym, ap, _∙_}
 use mathlib.Core.Bool.{true, false, _&&_}
 use mathlib.Core.List.{List, [], _∷_}
 use mathlib.Core.Logic.{_⊎_, ⊎-elim}
-use Prim.Native.Nat.{ℕ, zero, suc, _-_, _≤_, _<_}
+use Prim.Native.Nat.{ℕ, zero, suc, _+_, _-_, _≤_, _<_}
 use native.Mathlib.Omega.{arith}
 use lib.ListN.{getD}
 use lib.Dec.{leb}
@@ -12,7 +12,7 @@ use Rattle.calendar.specs.declared.Calendar.{Calendar}
 use Rattle.calendar.specs.Basics.{and-true, lt-or-ge, not-both}
 use Rattle.calendar.specs.Work.{working, joint, workEnd, lastChange, jointEnd}
 use Rattle.calendar.specs.Meaning.{Changeless, work-end-same, joint-changeless}
-use Rattle.work_ends.specs.Layout.{passed, odd, laid, lastCell, Edges, Layout, Parted}
+use Rattle.work_ends.specs.Layout.{passed, odd, laid, lastCell, Edges, Layout, Before}
 use Rattle.work_ends.proofs.Passing.{passed-all}
 use Rattle.work_ends.proofs.Walking.{last-most}
 
@@ -35,7 +35,7 @@ layout-end-one c xs n x w y =
     (λ q l. y .means q ∙ sym (and-true (working c q)))
 
 -- the edges part at every instant
-pub parted : (xs : List ℕ) (n p : ℕ) → Edges xs n → Parted xs n p (passed xs n p)
+pub parted : (xs : List ℕ) (n p : ℕ) → Edges xs n → Before xs n (p + 1) (passed xs n p)
 unfolding passed
 parted xs zero p y = record { few = omega arith; low = λ k h. absurd (omega arith); high = λ k h l. absurd (omega arith) }
 parted xs (suc n) p y =
@@ -46,11 +46,11 @@ parted xs (suc n) p y =
     rw e (record {
       few = omega (arith, r .few);
       low = r .low;
-      high = λ k a b. ⊎-elim (λ (z : k < n). r .high k a z) (λ (z : n ≤ k). let q : n ≡ k = omega arith in rw (← q) h) (lt-or-ge k n);
+      high = λ k a b. ⊎-elim (λ (z : k < n). r .high k a z) (λ (z : n ≤ k). let q : n ≡ k = omega arith in rw (← q) (omega arith)) (lt-or-ge k n);
     }))
     (λ (h : getD xs n 0 ≤ p).
     let low : (k : ℕ) → k < suc n → getD xs k 0 ≤ p = λ k a. ⊎-elim (λ (z : k < n). omega (arith, y .rising k n z (omega arith))) (λ (z : n ≤ k). let q : n ≡ k = omega arith in rw (← q) h) (lt-or-ge k n) in
-    rw (passed-all xs (suc n) p low) (record { few = omega arith; low = low; high = λ k a b. absurd (omega arith) }))
+    rw (passed-all xs (suc n) p low) (record { few = omega arith; low = λ k a. omega (arith, low k a); high = λ k a b. absurd (omega arith) }))
     (lt-or-ge p (getD xs n 0))
 
 -- work begins only at an edge, and one with an even number before it

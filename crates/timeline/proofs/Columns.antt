@@ -12,12 +12,12 @@ use borrow.Author.Tests.{lt-ltb, ltb-true}
 use Rattle.calendar.specs.Search.{greatestOf}
 use Rattle.calendar.specs.Meaning.{greatest-snoc}
 use Rattle.calendar.specs.Basics.{no-way, and-split}
-use Rattle.work_ends.specs.Layout.{Rising}
+use Rattle.work_ends.specs.Layout.{Rising, Before}
 use Rattle.timeline.specs.declared.ResourceTimeline.{ResourceTimeline}
 use Rattle.timeline.specs.Bookings.{Booking, bookingAt, bookingsTo, bookings, latestEnd}
 use Rattle.timeline.specs.Valid.{before}
 use Rattle.timeline.specs.Free.{overlaps, onAt, load}
-use Rattle.timeline.specs.Steps.{overlapping, Before, Columns, From}
+use Rattle.timeline.specs.Steps.{overlapping, Columns, From}
 use Rattle.timeline.proofs.Rules.{Rules}
 use Rattle.timeline.proofs.Rows.{rows-step}
 use Rattle.timeline.proofs.Loading.{on, is-on}

@@ -4,18 +4,18 @@ ghost use mathlib.Core.Path.{_≡_};
 ghost use Prim.Native.Nat.{_^_, _≤_, _<_};
 ghost use lib.ListN.{length};
 ghost use Rattle.calendar.specs.Work.{workEnd};
-ghost use Rattle.work_ends.specs.Layout.{laid, lastCell, Edges, Cells, Parted, foundOf};
+ghost use Rattle.work_ends.specs.Layout.{laid, lastCell, Edges, Rising, Before, foundOf};
 
-// How many of the first n cells, which rise, are at or before p.
-fn edges_passed(xs: &[u64], n: usize, p: u64) -> usize
-    requires { ⌜ (n ≤ 4096) × Cells (now xs) n ⌝ }
-    ensures { λ r. ⌜ Parted (now (xs .entry)) n p r ⌝ }
+// How many of the first n cells, which rise, are before x.
+pub fn cells_before(xs: &[u64], n: usize, x: u64) -> usize
+    requires { ⌜ (n ≤ length (now xs)) × (n ≤ 4096) × Rising (now xs) n ⌝ }
+    ensures { λ r. ⌜ Before (now (xs .entry)) n x r ⌝ }
 {
     let mut low: usize = 0;
     let mut high = n;
     while low < high {
         let mid = low + (high - low) / 2;
-        if xs[mid] <= p {
+        if xs[mid] < x {
             low = mid + 1;
         } else {
             high = mid;
@@ -35,7 +35,7 @@ pub fn work_end(edges: &[u64], len: usize, start: u64, work: u64) -> WorkEnd
     requires { ⌜ Edges (now edges) len ⌝ }
     ensures { λ r. ⌜ foundOf r ≡ workEnd (lastCell (now (edges .entry)) len) (laid (now (edges .entry)) len) start work ⌝ }
 {
-    let mut k = edges_passed(edges, len, start);
+    let mut k = cells_before(edges, len, start + 1);
     if k % 2 == 0 {
         return WorkEnd::Nothing;
     }
