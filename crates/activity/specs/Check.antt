@@ -5,7 +5,7 @@ use mathlib.Core.List.{List, [], _∷_}
 use lib.ListN.{take}
 use lib.Dec.{leb, ltb}
 use Rattle.calendar.specs.Refusals.{refusedOr}
-unfoldable pub use Rattle.calendar.specs.Every.{every}
+use Rattle.calendar.specs.Every.{every}
 use Rattle.calendar.specs.Limits.{lastInstant, longestDuration, mostUnits}
 use Rattle.calendar.specs.Valid.{valid}
 use Rattle.activity.specs.declared.ActivityDuration.{ActivityDuration}

@@ -1,9 +1,10 @@
 -- What each resource answers to each requirement, as the code keeps it.
 use Prim.Native.Nat.{ℕ, _+_, _*_, _^_, _≤_, _<_}
 use mathlib.Core.Path.{_≡_}
-use mathlib.Core.Bool.{true, cond}
+use mathlib.Core.Bool.{Bool, true, cond, _&&_, _||_}
 use mathlib.Core.List.{List}
 use lib.ListN.{getD, length}
+use lib.Dec.{ltb}
 use Rattle.calendar.specs.Search.{Found, nothing, at}
 use Rattle.activity.specs.declared.ResourceRequirement.{ResourceRequirement}
 use Rattle.activity.specs.declared.Activity.{Activity}
@@ -32,6 +33,10 @@ requirementAt a j = getD (a .requirements) j noRequirement
 -- the number for requirement j and place i, from t on
 abbrev pub startFor : Board → Activity → ℕ → ℕ → ℕ → ℕ → ℕ
 startFor b a ready t j i = numberOf (foundAt b a ready (requirementAt a j) t i)
+
+-- the resource at a place is to be asked from t on: it is on the board, and what it answers from t on is not known
+abbrev pub toAsk : ℕ → ℕ → ℕ → ℕ → ℕ → Bool
+toAsk place len asked start t = ltb place len && (ltb t asked || ltb start t)
 
 -- what was answered is so for each instant between the one asked from and the start
 pub record Kept (b : Board) (a : Activity) (ready : ℕ) (asked starts : List ℕ) : Type 0 where

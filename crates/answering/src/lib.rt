@@ -3,12 +3,11 @@
 // stands in cell 16 j + i: asked from `asked` on, it can start at `start`, or not at all (2^63). From each instant between the two it
 // answers the same; before it is asked, there are none between.
 ghost use mathlib.Core.Path.{_≡_};
-ghost use mathlib.Core.Bool.{_&&_, _||_};
-ghost use lib.Dec.{ltb};
+ghost use Rattle.answering.specs.Tables.{toAsk};
 
 // The resource at this place is to be asked from t on: it is on the board, and what it answers is not known.
 pub fn is_asked(place: usize, len: usize, asked: u64, start: u64, t: u64) -> bool
-    ensures { λ r. ⌜ r ≡ ltb place len && (ltb t asked || ltb start t) ⌝ }
+    ensures { λ r. ⌜ r ≡ toAsk place len asked start t ⌝ }
 {
     if place >= len {
         return false;

@@ -10,9 +10,10 @@ use lib.Seq.{getD-set-same, getD-set-other}
 use Rattle.calendar.specs.Basics.{and-split, same-or-not, or-true}
 use Rattle.calendar.specs.Search.{Found, nothing, at, leastFrom}
 use Rattle.calendar.specs.Meaning.{least-same}
+use Rattle.calendar.specs.Every.{everyFrom}
 use Rattle.board.specs.Enter.{blankResource, emptyBoard, withResource, changed}
 use Rattle.board.specs.Resources.{noResource, resourceAt, numberAt, lookupTo, lookup, isAt, onBoard}
-use Rattle.board.specs.Valid.{everyFrom, isZero, matrixRight, companionsRight, resourceRight, calendarBlank, diaryBlank, lastBlank, resourceBlank, transportCell, transportRight, valid}
+use Rattle.board.specs.Valid.{isZero, matrixRight, companionsRight, resourceRight, calendarBlank, diaryBlank, lastBlank, resourceBlank, transportCell, transportRight, valid}
 use Rattle.board.specs.declared.Board.{Board}
 use Rattle.board.specs.declared.Resource.{Resource}
 use Rattle.board.proofs.Facts.{rules, ruled}

@@ -1,5 +1,4 @@
 -- Laws on plain values, for the proofs of this crate and of those above it.
-pub mod Every
 pub mod Numbers
 pub mod Masks
 pub mod Seeing

@@ -7,7 +7,7 @@ use lib.ListN.{getD}
 use lib.Dec.{leb, ltb, eqb}
 use lib.IntN.{ℤ, pos, negsuc}
 use Rattle.calendar.specs.Limits.{longestDuration}
-unfoldable pub use Rattle.calendar.specs.Every.{everyFrom}
+use Rattle.calendar.specs.Every.{everyFrom}
 use Rattle.calendar.specs.declared.Calendar.{Calendar}
 use Rattle.calendar.specs.Valid as calendar
 use Rattle.timeline.specs.declared.ResourceTimeline.{ResourceTimeline}
@@ -18,10 +18,6 @@ use Rattle.board.specs.declared.LastCategory.the-variants.{Nothing, Cate
 use Rattle.board.specs.declared.Resource.{Resource}
 use Rattle.board.specs.declared.Board.{Board}
 use Rattle.board.specs.Resources.{resourceAt, numberAt, lookupTo, isAt, onBoard}
-
--- the first n cells
-abbrev pub every : (ℕ → Bool) → ℕ → Bool
-every P n = everyFrom P 0 n
 
 -- a duration: 0 to 2^36
 unfoldable pub durationRight : ℤ → Bool

@@ -1,6 +1,6 @@
 -- The loop of `choose`, step by step: a plan more, a member asked, a cell known, a round settled.
 use mathlib.Core.Path.{_≡_, refl, sym, ap, _∙_, subst}
-use mathlib.Core.Bool.{Bool, true, false, _&&_, _||_, cond}
+use mathlib.Core.Bool.{true, false, cond}
 use mathlib.Core.List.{List}
 use mathlib.Core.Logic.{⊎-elim}
 use Prim.Native.Nat.{ℕ, _+_, _-_, _*_, _/_, _%_, _^_, _≤_, _<_}
@@ -25,21 +25,14 @@ use Rattle.plans.specs.declared.Plan.{Plan}
 use Rattle.plans.specs.Plans.{noPlan, planWith, planOf, Planned}
 use Rattle.plans.proofs.Planning.{planned-next}
 use Rattle.together.specs.declared.Asking.{Asking}
-use Rattle.answering.specs.Tables.{requirementAt, foundAt, Kept, Answered}
+use Rattle.together.specs.Steps.{idle}
+use Rattle.answering.specs.Tables.{toAsk, requirementAt, foundAt, Kept, Answered}
 use Rattle.answering.proofs.Finding.{used-some}
 use Rattle.answering.proofs.Noting.{Through, through-start, kept-none, cell-known, kept-asked, through-asked}
 use Rattle.rounds.specs.declared.Rounds.{Rounds}
 use Rattle.rounds.specs.Rounds.{Settled, Fewer}
 use Rattle.rounds.proofs.Settling.{led-start, settled-none}
 use Rattle.choosing.proofs.Asking.{asked-here, Going, going-start, Next, Told}
-
--- what is asked where it is not known
-abbrev pub toAsk : ℕ → ℕ → ℕ → ℕ → ℕ → Bool
-toAsk place len asked start t = ltb place len && (ltb t asked || ltb start t)
-
--- an asking that nobody has answered
-abbrev pub idle : Asking
-idle = record { start = 0; next = 0 }
 
 -- the plans of the places so far, the rounds so far, what is known of the cells in front, and the asking at hand
 pub record State (b : Board) (a : Activity) (ready : ℕ) (plans : List Plan) (asked starts : List ℕ) (x : Rounds) (g : Asking) (planned k : ℕ) : Type 0 where

@@ -11,7 +11,8 @@ ghost use mathlib.Core.Bool.{cond};
 ghost use lib.ListN.{getD};
 ghost use lib.IntN.{pos};
 ghost use Rattle.timeline.specs.Valid as timeline;
-ghost use Rattle.board.specs.Valid.{every, isZero, entryRight, ownRight, entryCell, matrixRight, companionCell, companionsRight, lastRight, resourceRight, calendarBlank, diaryBlank, lastBlank, resourceBlank};
+ghost use Rattle.calendar.specs.Every.{everyFrom};
+ghost use Rattle.board.specs.Valid.{isZero, entryRight, ownRight, entryCell, matrixRight, companionCell, companionsRight, lastRight, resourceRight, calendarBlank, diaryBlank, lastBlank, resourceBlank};
 
 // The default or the initial of a matrix.
 fn own_right(present: bool, ms: i64) -> bool
@@ -34,7 +35,7 @@ fn entry_cell(present: bool, ms: i64) -> bool
 
 // The pairs of a matrix that is there.
 fn pairs_right(entries: &[i64; 256]) -> bool
-    ensures { λ r. ⌜ r ≡ every (λ i. entryRight (getD (now (entries .entry)) i (pos 0))) 256 ⌝ }
+    ensures { λ r. ⌜ r ≡ everyFrom (λ i. entryRight (getD (now (entries .entry)) i (pos 0))) 0 256 ⌝ }
 {
     let mut i: usize = 0;
     while i < 256 {
@@ -49,7 +50,7 @@ fn pairs_right(entries: &[i64; 256]) -> bool
 
 // The pairs where there is no matrix.
 fn pairs_blank(entries: &[i64; 256]) -> bool
-    ensures { λ r. ⌜ r ≡ every (λ i. isZero (getD (now (entries .entry)) i (pos 0))) 256 ⌝ }
+    ensures { λ r. ⌜ r ≡ everyFrom (λ i. isZero (getD (now (entries .entry)) i (pos 0))) 0 256 ⌝ }
 {
     let mut i: usize = 0;
     while i < 256 {
@@ -64,7 +65,7 @@ fn pairs_blank(entries: &[i64; 256]) -> bool
 
 // Two loops, so that neither asks in each round whether there is a matrix.
 fn transitions_right(present: bool, entries: &[i64; 256]) -> bool
-    ensures { λ r. ⌜ r ≡ every (λ i. entryCell present (getD (now (entries .entry)) i (pos 0))) 256 ⌝ }
+    ensures { λ r. ⌜ r ≡ everyFrom (λ i. entryCell present (getD (now (entries .entry)) i (pos 0))) 0 256 ⌝ }
 {
     if present {
         return pairs_right(entries);
@@ -73,7 +74,7 @@ fn transitions_right(present: bool, entries: &[i64; 256]) -> bool
 }
 
 fn initials_right(present: bool, entries: &[i64; 16]) -> bool
-    ensures { λ r. ⌜ r ≡ every (λ i. entryCell present (getD (now (entries .entry)) i (pos 0))) 16 ⌝ }
+    ensures { λ r. ⌜ r ≡ everyFrom (λ i. entryCell present (getD (now (entries .entry)) i (pos 0))) 0 16 ⌝ }
 {
     let mut i: usize = 0;
     while i < 16 {
@@ -189,7 +190,7 @@ fn booking_blank(s: u64, e: u64, u: u32, l: u64) -> bool
 }
 
 fn bookings_blank(t: ResourceTimeline) -> bool
-    ensures { λ r. ⌜ r ≡ every (timeline.emptyAt t) 64 ⌝ }
+    ensures { λ r. ⌜ r ≡ everyFrom (timeline.emptyAt t) 0 64 ⌝ }
 {
     let mut i: usize = 0;
     while i < 64 {

@@ -10,7 +10,7 @@ ghost use Rattle.timeline.specs.Valid.{valid};
 ghost use Rattle.earliest.specs.Steps.{startOf};
 ghost use Rattle.scheduler.specs.Shares.{startOn};
 ghost use Rattle.scheduler.specs.Asking.{nextAsked};
-ghost use Rattle.together.specs.Steps.{answeredBy};
+ghost use Rattle.together.specs.Steps.{idle, answeredBy};
 
 // How far the asking has come: those in front of the one to ask next can start at `start`. At 0 and 0 nobody is asked yet.
 pub struct Asking {
@@ -49,7 +49,7 @@ pub fn next_asked(i: usize, stays: bool) -> usize
 }
 
 pub fn unasked() -> Asking
-    ensures { λ r. ⌜ r ≡ record { start = 0; next = 0 } ⌝ }
+    ensures { λ r. ⌜ r ≡ idle ⌝ }
 {
     Asking { start: 0, next: 0 }
 }

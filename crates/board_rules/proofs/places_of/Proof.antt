@@ -8,8 +8,9 @@ use mathlib.Core.Path.{_≡_, refl, sym, _∙_}
 use Prim.Native.Nat.{_+_, _-_, _≤_, min}
 use native.Mathlib.Omega.{arith}
 use lib.ListN.{length, replicate, length-set}
+use Rattle.calendar.specs.Every.{everyFrom}
 use Rattle.board.specs.Resources.{numberAt}
-use Rattle.board.specs.Valid.{everyFrom, every, cellRight, transportRight, valid}
+use Rattle.board.specs.Valid.{cellRight, transportRight, valid}
 use Rattle.board.proofs.Facts.{resource-number, cell-past, cell-wrong, cell-twice, cell-right, valid-long, valid-start, valid-stop, valid-next, valid-end}
 use Rattle.board.proofs.Seeing.{Seen, seen-none}
 use Rattle.board.proofs.Setting.{seen-next, seen-past, seen-at, transport-same, read-all}
@@ -19,7 +20,7 @@ use Rattle.board_rules.proofs.places_of.Tie as tie
 
 abbrev Inv-loop : tie.InvT-loop
 Inv-loop b len wrong places₀ lens₀ i₀ places lens i =
-    (len ≡ b .len) × (len ≤ 16) × (i ≤ 16) × Seen b (min i (b .len)) places × (valid b ≡ everyFrom (cellRight b) i (16 - i) && every (transportRight b) 256)
+    (len ≡ b .len) × (len ≤ 16) × (i ≤ 16) × Seen b (min i (b .len)) places × (valid b ≡ everyFrom (cellRight b) i (16 - i) && everyFrom (transportRight b) 0 256)
     × (length lens ≡ 16) × Read b i lens
 
 abbrev μ-loop : tie.MeasureT-loop

@@ -8,8 +8,8 @@ use Prim.Native.Nat.{ℕ, _-_, _/_, _%_, _≤_}
 use native.Mathlib.Omega.{arith}
 use lib.Dec.{ltb}
 use lib.ListN.{getD}
-use Rattle.board.specs.Valid.{everyFrom, every, transportCell}
-use Rattle.board.proofs.Every.{every-step, every-end}
+use Rattle.board.specs.Valid.{transportCell}
+use Rattle.calendar.specs.Every.{everyFrom, from-step, from-end}
 use Rattle.board_rules.proofs.rules.transport_right.Statement.{statement}
 use Rattle.board_rules.proofs.rules.transport_right.Tie as tie
 
@@ -18,7 +18,7 @@ abbrev cell : List ℕ → List ℕ → ℕ → Bool
 cell transport places k = transportCell (getD transport k 0) (ltb (getD places (k / 16) 0) 16) (ltb (getD places (k % 16) 0) 16)
 
 abbrev cells : List ℕ → List ℕ → Bool
-cells transport places = every (cell transport places) 256
+cells transport places = everyFrom (cell transport places) 0 256
 
 abbrev Inv-loop : tie.InvT-loop
 Inv-loop transport places k₀ k = (k ≤ 256) × (cells transport places ≡ everyFrom (cell transport places) k (256 - k))
@@ -53,7 +53,7 @@ transport-cell-requires c κs = search needs
 returns : tie.Need-returns Inv-loop μ-loop
 returns c =
     let e = sym (c .before .transport-cell .ensures) ∙ not-true _ (c .if1 .taken) in
-    sym (c .before .before .before .before .before .before .loop .inv .1 ∙ every-step _ _ _ (c .before .before .before .before .before .loop-test .taken) ∙ rw e refl)
+    sym (c .before .before .before .before .before .before .loop .inv .1 ∙ from-step _ _ _ (c .before .before .before .before .before .loop-test .taken) ∙ rw e refl)
 
 add-k : tie.Need-add-k Inv-loop μ-loop
 add-k c = search needs
@@ -64,10 +64,10 @@ loop-less c = search needs
 loop-again : tie.Need-loop-again Inv-loop μ-loop
 loop-again c =
     let e = sym (c .before .transport-cell .ensures) ∙ not-false _ (c .if1 .left) in
-    (omega arith, c .before .before .before .before .before .before .loop .inv .1 ∙ every-step _ _ _ (c .before .before .before .before .before .loop-test .taken) ∙ rw e refl)
+    (omega arith, c .before .before .before .before .before .before .loop .inv .1 ∙ from-step _ _ _ (c .before .before .before .before .before .loop-test .taken) ∙ rw e refl)
 
 returns-2 : tie.Need-returns-2 Inv-loop μ-loop
-returns-2 c = sym (c .before .loop .inv .1 ∙ every-end _ _ _ (omega arith))
+returns-2 c = sym (c .before .loop .inv .1 ∙ from-end _ _ _ (omega arith))
 
 pub transport-right-spec : {M : Type 1} → statement M
 transport-right-spec =
