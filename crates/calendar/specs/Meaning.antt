@@ -5,7 +5,7 @@ use mathlib.Core.Logic.{_⊎_, inl, inr, ⊎-elim}
 use Prim.Native.Nat.{ℕ, zero, suc, _+_, _-_, _≤_, _<_, max}
 use native.Mathlib.Nat.{eq-or-lt-of-le}
 use native.Mathlib.Omega.{arith}
-use mathlib.Core.List.{List, [], _∷_, _++_}
+use mathlib.Core.List.{List, [], _∷_, _++_, map}
 use native.Mathlib.Numerals.{add-one}
 use lib.ListN.{getD, length}
 use lib.Seq.{getD-set-same, getD-set-other}
@@ -381,11 +381,23 @@ working-back c x q t =
       blocks = λ k l. ⊎-elim (λ (z : suc x < getD (c .blocks .starts) k 0). inl (omega arith)) (λ (z : getD (c .blocks .ends) k 0 ≤ suc x). inr (omega (arith, q .blocks k l))) (u .blocks k l);
     })
 
--- one more behind a list
-pub greatest-snoc : (xs : List ℕ) (x : ℕ) → greatestOf (xs ++ (x ∷ [])) ≡ max (greatestOf xs) x
-unfolding greatestOf
-greatest-snoc [] x = omega arith
-greatest-snoc (y ∷ xs) x = rw (greatest-snoc xs x) (omega arith)
+-- The greatest that f gives for one of a list: with one more behind it, at least that of each, at most what all are.
+module _ {A : Type 0} (f : A → ℕ) where
+  pub greatest-snoc : (xs : List A) (x : A) → greatestOf (map f (xs ++ (x ∷ []))) ≡ max (greatestOf (map f xs)) (f x)
+  unfolding greatestOf
+  greatest-snoc [] x = omega arith
+  greatest-snoc (y ∷ xs) x = rw (greatest-snoc xs x) (omega arith)
+
+  pub greatest-each : (d : A) (xs : List A) (k : ℕ) → k < length xs → f (getD xs k d) ≤ greatestOf (map f xs)
+  unfolding greatestOf
+  greatest-each d [] k l = absurd (omega arith)
+  greatest-each d (x ∷ xs) zero l = omega arith
+  greatest-each d (x ∷ xs) (suc k) l = omega (arith, greatest-each d xs k (omega arith))
+
+  pub greatest-most : (d : A) (xs : List A) (m : ℕ) → ((k : ℕ) → k < length xs → f (getD xs k d) ≤ m) → greatestOf (map f xs) ≤ m
+  unfolding greatestOf
+  greatest-most d [] m g = omega arith
+  greatest-most d (x ∷ xs) m g = omega (arith, g 0 (omega arith), greatest-most d xs m (λ k l. g (suc k) (omega arith)))
 
 -- From its latest end on a list of spans contains no instant ..
 past-all : (l : List Span) (q : ℕ) → latest l ≤ q → any (contains q) l ≡ false

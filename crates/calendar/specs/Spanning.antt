@@ -1,16 +1,32 @@
 -- One of several spans passes a test: how the loops go on, and the tests as facts.
-use mathlib.Core.Path.{_≡_, refl, sym, _∙_}
+use mathlib.Core.Path.{_≡_, refl, sym, ap, _∙_}
 use mathlib.Core.Bool.{Bool, true, false, not, _&&_, _||_}
 use mathlib.Core.Logic.{_⊎_, ⊎-elim}
 use Prim.Native.Nat.{ℕ, zero, suc, _+_, _-_, _≤_, _<_}
 use native.Mathlib.Numerals.{add-one}
 use native.Mathlib.Omega.{arith}
+use lib.ListN.{getD, length}
 use lib.Dec.{leb, ltb}
 use borrow.Author.Tests.{leb-true, ltb-true, le-leb, lt-ltb}
 use Rattle.calendar.specs.declared.TimeWindows.{TimeWindows}
 use Rattle.calendar.specs.Spans.{Span, spanAt, spansFrom, spans, any, holds, meets, contains}
 use Rattle.calendar.specs.Fits.{openFor}
 use Rattle.calendar.specs.Basics.{and-split, and-true, and-false, or-true, or-false, or-assoc, not-both, no-way, lt-or-ge}
+
+-- the cells from cell i on as a list
+pub spans-long : (l : TimeWindows) (i n : ℕ) → length (spansFrom l i n) ≡ n
+unfolding spansFrom
+spans-long l i zero = refl
+spans-long l i (suc n) = ap suc (spans-long l (suc i) n)
+
+span-from : (l : TimeWindows) (i n k j : ℕ) (d : Span) → k < n → i + k ≡ j → getD (spansFrom l i n) k d ≡ spanAt l j
+unfolding spansFrom
+span-from l i zero k j d h e = absurd (omega arith)
+span-from l i (suc n) zero j d h e = ap (spanAt l) (let f : i ≡ j = omega arith in f)
+span-from l i (suc n) (suc k) j d h e = span-from l (suc i) n k j d (omega arith) (omega arith)
+
+pub span-at : (l : TimeWindows) (k : ℕ) (d : Span) → k < l .len → getD (spans l) k d ≡ spanAt l k
+span-at l k d h = span-from l 0 (l .len) k k d h (omega arith)
 
 pub any-step : (P : Span → Bool) (l : TimeWindows) (i n : ℕ) → i < n → any P (spansFrom l i (n - i)) ≡ P (spanAt l i) || any P (spansFrom l (i + 1) (n - (i + 1)))
 unfolding any spansFrom

@@ -9,12 +9,6 @@ unfoldable pub before : List ℕ → ℕ → ℕ
 before xs zero = 0
 before xs (suc i) = getD xs i 0
 
--- r is the place of a start s among the first n of xs: behind all that are at or before it
-pub record Place (xs : List ℕ) (n s r : ℕ) : Type 0 where
-  pub in-range : r ≤ n
-  pub behind : (k : ℕ) → k < r → getD xs k 0 ≤ s
-  pub ahead : r < n → s < getD xs r 0
-
 -- r is xs with v put in at index i, and the cells from there to n moved up by one
 pub record Opened (xs : List ℕ) (i n v : ℕ) (r : List ℕ) : Type 0 where
   pub low : (k : ℕ) → k < i → getD r k 0 ≡ getD xs k 0

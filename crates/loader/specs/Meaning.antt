@@ -6,13 +6,14 @@ use mathlib.Core.List.{List, [], _∷_, _++_, map, append-assoc, append-nil}
 use Prim.Native.Nat.{ℕ, zero, suc, _+_, _^_, _≤_, _<_}
 use native.Mathlib.Omega.{arith}
 use lib.Dec.{eqb}
-use lib.ListN.{length, length-set, length-append}
+use lib.ListN.{length, length-set, length-append, length-map}
 use borrow.Author.Tests.{eqb-true, eqb-false, eq-eqb, ne-eqb}
 use Rattle.calendar.specs.declared.TimeWindows.{TimeWindows}
 use Rattle.calendar.specs.declared.Calendar.{Calendar}
 use Rattle.calendar.specs.declared.Added.{Added}
 use Rattle.calendar.specs.Valid.{valid}
-use Rattle.calendar.specs.Spans.{Span, spansFrom, spans}
+use Rattle.calendar.specs.Spans.{Span, spans}
+use Rattle.calendar.specs.Spanning.{spans-long}
 use Rattle.calendar.specs.Add.{addRefusal, withSpan, added, addWindow, addBlock}
 use Rattle.calendar.specs.Meaning.{span-added}
 use Rattle.calendar.proofs.Rules.{right, windows-right, blocks-right}
@@ -267,7 +268,6 @@ run-first c block m ws w vs e h =
 -- 4 falls on the record that would be a 33rd, where it and those before it are good, whatever follows
 pub run-33rd : (c : Calendar) (block : Bool) (ws : List TimeWindow) (w : TimeWindow) (vs : List TimeWindow) → Cells (listOf block c) → valid c ≡ true → AllGood ws → Good w → listOf block c .len + length ws ≡ 32
     → addRun c block (ws ++ (w ∷ vs)) ≡ reply 4 c
-unfolding spansFrom
 run-33rd c block ws w vs h v g good full =
     let m = addRun c block ws .calendar in
     let e = run-all c block ws h v g (omega (arith, full)) in
@@ -278,18 +278,10 @@ run-33rd c block ws w vs h v g good full =
     let four : addOne m block w .refusal ≡ 4 = one-number m block w ∙ sym (refuse-4 m (listOf block m .len) (w .start) (w .end) (taken .ruled) a (good .0) (good .1) (omega (arith, many))) in
     run-first c block m ws w vs whole (λ z. absurd (omega (arith, four, z))) ∙ ap (λ (n : ℕ). reply n c) four
   where
-    spans-length : (l : TimeWindows) (i k : ℕ) → length (spansFrom l i k) ≡ k
-    spans-length l i zero = refl
-    spans-length l i (suc k) = ap suc (spans-length l (suc i) k)
-
-    map-length : (us : List TimeWindow) → length (map spanOf us) ≡ length us
-    map-length [] = refl
-    map-length (u ∷ us) = ap suc (map-length us)
-
     accepted-len : (c : Calendar) (block : Bool) (ws : List TimeWindow) (m : Calendar) → Accepted c block ws m → listOf block m .len ≡ listOf block c .len + length ws
     accepted-len c block ws m t =
-        let a = spans-length (listOf block m) 0 (listOf block m .len) in
-        let b = spans-length (listOf block c) 0 (listOf block c .len) in
-        let d = map-length ws in
+        let a = spans-long (listOf block m) 0 (listOf block m .len) in
+        let b = spans-long (listOf block c) 0 (listOf block c .len) in
+        let d = length-map ws spanOf in
         let f : length (spans (listOf block m)) ≡ length (spans (listOf block c)) + length (map spanOf ws) = ap length (t .list) ∙ length-append (spans (listOf block c)) (map spanOf ws) in
         omega (arith, a, b, d, f)

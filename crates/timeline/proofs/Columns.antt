@@ -2,7 +2,7 @@
 -- cell from which none is picked.
 use mathlib.Core.Path.{_≡_, refl, sym, _∙_, ap}
 use mathlib.Core.Bool.{Bool, true, false, cond}
-use mathlib.Core.List.{List, [], _∷_, _++_, map, map-append}
+use mathlib.Core.List.{List, [], _∷_, _++_}
 use mathlib.Core.Logic.{_⊎_, ⊎-elim}
 use Prim.Native.Nat.{ℕ, zero, suc, _+_, _-_, _*_, _≤_, _<_, max}
 use native.Mathlib.Omega.{arith}
@@ -61,8 +61,8 @@ from-cell ss es us ls n i s c b = record {
 
 -- the latest end of the first n bookings is that of the last of them
 latest-snoc : (bs : List Booking) (b : Booking) → latestEnd (bs ++ (b ∷ [])) ≡ max (latestEnd bs) (b .end)
-unfolding latestEnd greatestOf
-latest-snoc bs b = ap greatestOf (map-append (λ (b : Booking). b .end) bs (b ∷ [])) ∙ greatest-snoc (map (λ (b : Booking). b .end) bs) (b .end)
+unfolding latestEnd
+latest-snoc bs b = greatest-snoc (λ (b : Booking). b .end) bs b
 
 latest-to : (t : ResourceTimeline) → Rules t → (n : ℕ) → n ≤ t .len → latestEnd (bookingsTo (t .starts) (t .ends) (t .units) n) ≡ before (t .latest) n
 unfolding bookingsTo latestEnd before greatestOf

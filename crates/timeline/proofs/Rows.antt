@@ -16,7 +16,8 @@ use Rattle.timeline.specs.declared.ResourceTimeline.{ResourceTimeline}
 use Rattle.timeline.specs.Bookings.{Booking, bookingAt, bookingsTo, bookings, total}
 use Rattle.timeline.specs.Valid.{before, valid}
 use Rattle.timeline.specs.Diary.{insertBooking, cells, latestEnds, diary}
-use Rattle.columns.specs.Steps.{Place, Opened, Latest}
+use Rattle.work_ends.specs.Layout.{Before}
+use Rattle.columns.specs.Steps.{Opened, Latest}
 use Rattle.timeline.proofs.Rules.{Rules, CellOf, ruled}
 use Rattle.columns.proofs.Shift.{before-pos}
 
@@ -113,7 +114,7 @@ total-put (suc at) b (x ∷ xs) = rw (total-put at b xs) (omega arith)
 pub record Put (t r : ResourceTimeline) (s e u at : ℕ) : Type 0 where
   pub capacity : r .capacity ≡ t .capacity
   pub calendar : r .calendar ≡ t .calendar
-  pub place : Place (t .starts) (t .len) s at
+  pub place : Before (t .starts) (t .len) (s + 1) at
   pub starts : Opened (t .starts) at (t .len) s (r .starts)
   pub ends : Opened (t .ends) at (t .len) e (r .ends)
   pub units : Opened (t .units) at (t .len) u (r .units)
@@ -124,6 +125,13 @@ pub record Put (t r : ResourceTimeline) (s e u at : ℕ) : Type 0 where
 module _ (t r : ResourceTimeline) (s e u at : ℕ) (p : Put t r s e u at) where
   abbrev b : Booking
   b = record { start = s; end = e; units = u }
+
+  -- behind those that start at or before it, and ahead of the others
+  behind : (k : ℕ) → k < at → getD (t .starts) k 0 ≤ s
+  behind k l = omega (arith, p .place .low k l)
+
+  ahead : at < t .len → s < getD (t .starts) at 0
+  ahead l = omega (arith, p .place .high at (omega arith) l)
 
   row-low : (k : ℕ) → k < at → rowAt r k ≡ rowAt t k
   row-low k h = cc (p .starts .low k h, p .ends .low k h, p .units .low k h)
@@ -146,12 +154,12 @@ module _ (t r : ResourceTimeline) (s e u at : ℕ) (p : Put t r s e u at) where
       (λ k h. each k (rw (count r) at h))
     where
       within : at ≤ length (bookings t)
-      within = rw (count t) (p .place .in-range)
+      within = rw (count t) (p .place .few)
 
       each : (k : ℕ) → k < r .len → getD (bookings r) k none ≡ getD (putAt at b (bookings t)) k none
       each k h =
           by-order k at
-          (λ l. booking-at r k h ∙ row-low k l ∙ sym (booking-at t k (omega (arith, p .place .in-range))) ∙ sym (put-low at b (bookings t) within k l))
+          (λ l. booking-at r k h ∙ row-low k l ∙ sym (booking-at t k (omega (arith, p .place .few))) ∙ sym (put-low at b (bookings t) within k l))
           (λ q. rw q (booking-at r at (rw q at h) ∙ row-here ∙ sym (getD-at (take at (bookings t)) b (drop at (bookings t)) none at (length-take-le at (bookings t) within))))
           (λ l.
           let j = k - 1 in
@@ -165,9 +173,9 @@ module _ (t r : ResourceTimeline) (s e u at : ℕ) (p : Put t r s e u at) where
       bookings-put
       ∙ sym
       (insert-at b (bookings t) at
-      (rw (count t) (p .place .in-range))
-      (λ k l. rw (booking-at t k (omega (arith, p .place .in-range))) (p .place .behind k l))
-      (λ l. rw (booking-at t at (rw (count t) at l)) (p .place .ahead (rw (count t) at l))))
+      (rw (count t) (p .place .few))
+      (λ k l. rw (booking-at t k (omega (arith, p .place .few))) (behind k l))
+      (λ l. rw (booking-at t at (rw (count t) at l)) (ahead (rw (count t) at l))))
 
   before-low : (xs ys : List ℕ) → ((k : ℕ) → k < at → getD ys k 0 ≡ getD xs k 0) → (k : ℕ) → k ≤ at → before ys k ≡ before xs k
   unfolding before
@@ -177,7 +185,7 @@ module _ (t r : ResourceTimeline) (s e u at : ℕ) (p : Put t r s e u at) where
   module _ (rs : Rules t) (order : s < e) (range : e ≤ 2 ^ 42) (some : 1 ≤ u) (few : u ≤ 10000) (room : t .len < 64) where
     cell-low : (i : ℕ) → i < at → CellOf r i
     cell-low i h =
-        let f = rs .filled i (omega (arith, p .place .in-range)) in
+        let f = rs .filled i (omega (arith, p .place .few)) in
         let a = p .starts .low i h in
         let b′ = p .ends .low i h in
         let c′ = p .units .low i h in
@@ -188,7 +196,7 @@ module _ (t r : ResourceTimeline) (s e u at : ℕ) (p : Put t r s e u at) where
 
     prev-below : before (r .starts) at ≤ s
     unfolding before
-    prev-below = rw (before-low (t .starts) (r .starts) (p .starts .low) at (omega arith)) (go at (p .place .behind))
+    prev-below = rw (before-low (t .starts) (r .starts) (p .starts .low) at (omega arith)) (go at behind)
       where
         go : (j : ℕ) → ((k : ℕ) → k < j → getD (t .starts) k 0 ≤ s) → before (t .starts) j ≤ s
         go zero f = omega arith
@@ -201,14 +209,14 @@ module _ (t r : ResourceTimeline) (s e u at : ℕ) (p : Put t r s e u at) where
       some = omega (arith, p .units .here, some);
       few = omega (arith, p .units .here, few);
       sorted = omega (arith, p .starts .here, prev-below);
-      latest = p .latest .run at (omega arith) (omega (arith, p .place .in-range));
+      latest = p .latest .run at (omega arith) (omega (arith, p .place .few));
     }
 
     -- the start after a moved one
     next-above : (i : ℕ) → at ≤ i → i < t .len → getD (r .starts) i 0 ≤ getD (t .starts) i 0
     next-above i h l =
         ⊎-elim
-        (λ (q : at ≡ i). rw (← q) (omega (arith, p .starts .here, p .place .ahead (omega arith))))
+        (λ (q : at ≡ i). rw (← q) (omega (arith, p .starts .here, ahead (omega arith))))
         (λ (g : at < i). omega (arith, p .starts .high i g (omega arith), rs .filled i l .sorted, before-pos (t .starts) i (omega arith)))
         (eq-or-lt-of-le h)
 

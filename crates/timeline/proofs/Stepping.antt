@@ -11,11 +11,12 @@ use Rattle.calendar.specs.declared.TimeWindows.{TimeWindows}
 use Rattle.calendar.specs.declared.Calendar.{Calendar}
 use Rattle.calendar.specs.Basics.{and-split, and-join, and-true, not-both}
 use Rattle.calendar.specs.Search.{Found, nothing, at, greatestOf}
-use Rattle.calendar.specs.Spans.{spansFrom}
+use Rattle.calendar.specs.Spans.{Span, spanAt, spans}
+use Rattle.calendar.specs.Spanning.{spans-long, span-at}
 use Rattle.calendar.specs.Valid as calendar
 use Rattle.calendar.specs.Fits.{fits}
 use Rattle.calendar.specs.Work.{working, joint, jointEnd, latest, lastChange}
-use Rattle.calendar.specs.Meaning.{Quiet, fits-back, working-back, joint-changeless, joint-end-found, work-end-back}
+use Rattle.calendar.specs.Meaning.{Quiet, fits-back, working-back, joint-changeless, joint-end-found, work-end-back, greatest-each, greatest-most}
 use Rattle.calendar.proofs.Rules.{filled, windows-right, blocks-right}
 use Rattle.timeline.specs.declared.ResourceTimeline.{ResourceTimeline}
 use Rattle.timeline.specs.Bookings.{Booking, bookings, latestEnd}
@@ -99,35 +100,27 @@ next-still t x r y n a b = record {
   ends = λ k l e. omega (arith, n .ends k l (omega arith));
 }
 
--- the latest end of a list of spans is at least each of them, and at most what they all are
-end-latest : (l : TimeWindows) (i n k : ℕ) → k < n → getD (l .ends) (i + k) 0 ≤ latest (spansFrom l i n)
-unfolding latest spansFrom greatestOf
-end-latest l i zero k h = absurd (omega arith)
-end-latest l i (suc n) zero h =
-    let e : i + 0 ≡ i = omega arith in
-    rw e (omega arith)
-end-latest l i (suc n) (suc k) h =
-    let e : i + suc k ≡ suc i + k = omega arith in
-    rw e (omega (arith, end-latest l (suc i) n k (omega arith)))
+-- the latest end of a list of spans is at least that of each, and at most what they all are
+end-latest : (l : TimeWindows) (k : ℕ) → k < l .len → getD (l .ends) k 0 ≤ latest (spans l)
+unfolding latest
+end-latest l k h = rw (span-at l k (spanAt l 0) h) at (greatest-each (λ (w : Span). w .end) (spanAt l 0) (spans l) k (rw (spans-long l 0 (l .len)) h))
 
-latest-most : (l : TimeWindows) (m i n : ℕ) → ((k : ℕ) → i ≤ k → k < i + n → getD (l .ends) k 0 ≤ m) → latest (spansFrom l i n) ≤ m
-unfolding latest spansFrom greatestOf
-latest-most l m i zero f = omega arith
-latest-most l m i (suc n) f = omega (arith, f i (omega arith) (omega arith), latest-most l m (suc i) n (λ k a b. f k (omega arith) (omega arith)))
+latest-most : (l : TimeWindows) (m : ℕ) → ((k : ℕ) → k < l .len → getD (l .ends) k 0 ≤ m) → latest (spans l) ≤ m
+unfolding latest
+latest-most l m f =
+    greatest-most (λ (w : Span). w .end) (spanAt l 0) (spans l) m
+    (λ k h. let g : k < l .len = rw (spans-long l 0 (l .len)) at h in rw (span-at l k (spanAt l 0) g) (f k g))
 
-end-last : (bs : List Booking) (k : ℕ) → k < length bs → getD bs k none .end ≤ latestEnd bs
-unfolding latestEnd greatestOf
-end-last [] k l = absurd (omega arith)
-end-last (b ∷ bs) zero l = omega arith
-end-last (b ∷ bs) (suc k) l = omega (arith, end-last bs k (omega arith))
-
-last-most : (bs : List Booking) (m : ℕ) → ((k : ℕ) → k < length bs → getD bs k none .end ≤ m) → latestEnd bs ≤ m
-unfolding latestEnd greatestOf
-last-most [] m f = omega arith
-last-most (b ∷ bs) m f = omega (arith, f 0 (omega arith), last-most bs m (λ k l. f (suc k) (omega arith)))
-
+-- and so is that of the bookings
 pub booked-end : (t : ResourceTimeline) (k : ℕ) → k < t .len → getD (t .ends) k 0 ≤ latestEnd (bookings t)
-booked-end t k h = rw (ap (λ (b : Booking). b .end) (booking-at t k h)) at (end-last (bookings t) k (rw (count t) h))
+unfolding latestEnd
+booked-end t k h = rw (booking-at t k h) at (greatest-each (λ (b : Booking). b .end) none (bookings t) k (rw (count t) h))
+
+booked-most : (t : ResourceTimeline) (m : ℕ) → ((k : ℕ) → k < t .len → getD (t .ends) k 0 ≤ m) → latestEnd (bookings t) ≤ m
+unfolding latestEnd
+booked-most t m f =
+    greatest-most (λ (b : Booking). b .end) none (bookings t) m
+    (λ k h. let g : k < t .len = rw (count t) at h in rw (booking-at t k g) (f k g))
 
 -- past its last change a calendar is quiet
 pub quiet-past : (c : Calendar) → calendar.valid c ≡ true → (y : ℕ) → lastChange (c ∷ []) ≤ y → Quiet c (suc y)
@@ -135,13 +128,8 @@ unfolding lastChange greatestOf
 quiet-past c v y h = record {
   windows = λ k l e.
       let f = filled (c .windows) (windows-right c v) k l in
-      let z : 0 + k ≡ k = omega arith in
-      let g = rw z at (end-latest (c .windows) 0 (c .windows .len) k l) in
-      omega arith;
-  blocks = λ k l e.
-      let z : 0 + k ≡ k = omega arith in
-      let g = rw z at (end-latest (c .blocks) 0 (c .blocks .len) k l) in
-      omega arith;
+      omega (arith, end-latest (c .windows) k l);
+  blocks = λ k l e. omega (arith, end-latest (c .blocks) k l);
 }
 
 -- from the last event on nothing happens
@@ -155,7 +143,7 @@ last-still t r y h = record {
 pub last-range : (t : ResourceTimeline) → Rules t → lastEvent t ≤ 2 ^ 42
 unfolding lastEvent lastChange greatestOf
 last-range t r =
-    let a = latest-most (t .calendar .windows) (2 ^ 42) 0 (t .calendar .windows .len) (λ k b c. filled (t .calendar .windows) (windows-right _ (r .calendar)) k (omega arith) .1) in
-    let b = latest-most (t .calendar .blocks) (2 ^ 42) 0 (t .calendar .blocks .len) (λ k b c. filled (t .calendar .blocks) (blocks-right _ (r .calendar)) k (omega arith) .1) in
-    let d = last-most (bookings t) (2 ^ 42) (λ k l. let h : k < t .len = rw (count t) at l in rw (ap (λ (x : Booking). x .end) (booking-at t k h)) (r .filled k h .range)) in
+    let a = latest-most (t .calendar .windows) (2 ^ 42) (λ k l. filled (t .calendar .windows) (windows-right _ (r .calendar)) k l .1) in
+    let b = latest-most (t .calendar .blocks) (2 ^ 42) (λ k l. filled (t .calendar .blocks) (blocks-right _ (r .calendar)) k l .1) in
+    let d = booked-most t (2 ^ 42) (λ k l. r .filled k l .range) in
     omega arith
