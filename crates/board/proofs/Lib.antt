@@ -3,6 +3,7 @@ pub mod Numbers
 pub mod Masks
 pub mod Seeing
 pub mod Facts
+pub mod Counts
 pub mod Setting
 pub mod Replying
 pub mod Meaning

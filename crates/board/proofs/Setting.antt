@@ -1,6 +1,6 @@
 -- The table of places against the board, and the setup by a matrix.
 use borrow.Author.Tests.{leb-true, eq-eqb, ne-eqb}
-use mathlib.Core.Bool.{true, false, true≢false}
+use mathlib.Core.Bool.{true, false}
 use mathlib.Core.List.{List}
 use mathlib.Core.Path.{_≡_, refl, sym, _∙_}
 use Prim.Native.Nat.{ℕ, suc, _+_, _*_, _/_, _%_, _≤_, _<_, min}
@@ -42,11 +42,6 @@ pub transport-same : (b : Board) (places : List ℕ) → Seen b (b .len) places 
 unfolding transportRight
 transport-same b places s l =
     from-same _ _ 0 256 (λ k z m. rw (seen-on b (b .len) (k / 16) places s (omega arith) l, seen-on b (b .len) (k % 16) places s (omega arith) l) refl)
-
--- a board that breaks the rules promises no places
-pub refuted : (b : Board) (places : List ℕ) → valid b ≡ false
-    → (false ≡ valid b) × ((n : ℕ) → n < 16 → valid b ≡ true → getD places n 0 ≡ placeOf (lookup b n))
-refuted b places e = (sym e, λ n l h. absurd (true≢false (sym h ∙ e)))
 
 pub read-all : (b : Board) (i : ℕ) (places : List ℕ) → Seen b (min i (b .len)) places → b .len ≤ i → Seen b (b .len) places
 read-all b i places s l =

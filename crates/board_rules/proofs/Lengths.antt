@@ -13,12 +13,11 @@ use Rattle.calendar.specs.Basics.{and-split, lt-or-ge, same-or-not}
 use Rattle.timeline.proofs.Rules as timeline
 use Rattle.board.specs.declared.Board.{Board}
 use Rattle.board.specs.declared.Resource.{Resource}
-use Rattle.board.specs.Resources.{resourceAt, lookup}
-use Rattle.board.specs.Places.{placeOf}
+use Rattle.board.specs.Resources.{resourceAt}
+use Rattle.board.specs.Places.{Known, Lengths}
 use Rattle.board.specs.Valid.{valid, companionsRight, resourceBlank, diaryBlank}
 use Rattle.board.proofs.Facts.{rules}
 use Rattle.board.proofs.Meaning.{resource-of}
-use Rattle.board.proofs.Setting as setting
 
 blank-len : (r : Resource) → resourceBlank r ≡ true → r .timeline .len ≡ 0
 unfolding resourceBlank diaryBlank
@@ -53,9 +52,5 @@ read-next b i lens l h k m =
 
 -- a board that breaks the rules promises no places and no lengths
 pub refuted : (b : Board) (places lens : List ℕ) → valid b ≡ false
-    → (false ≡ valid b) × ((n : ℕ) → n < 16 → valid b ≡ true → getD places n 0 ≡ placeOf (lookup b n))
-    × ((i : ℕ) → i < b .len → valid b ≡ true → getD lens i 0 ≡ resourceAt b i .timeline .len)
-    × ((i : ℕ) → i < 16 → valid b ≡ true → getD lens i 0 ≤ 64)
-refuted b places lens e =
-    let w = setting.refuted b places e in
-    (w .0, w .1, (λ n l h. absurd (true≢false (sym h ∙ e))), λ n l h. absurd (true≢false (sym h ∙ e)))
+    → (false ≡ valid b) × (valid b ≡ true → Known b places × Lengths b lens × ((i : ℕ) → i < 16 → getD lens i 0 ≤ 64))
+refuted b places lens e = (sym e, λ h. absurd (true≢false (sym h ∙ e)))

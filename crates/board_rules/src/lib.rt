@@ -8,9 +8,8 @@ ghost use mathlib.Core.Path.{_≡_};
 ghost use mathlib.Core.Bool.{true};
 ghost use Prim.Native.Nat.{ℕ, _≤_, _<_};
 ghost use lib.ListN.{getD};
-ghost use Rattle.board.specs.Resources.{resourceAt, lookup};
 ghost use Rattle.board.specs.Valid.{valid};
-ghost use Rattle.board.specs.Places.{placeOf};
+ghost use Rattle.board.specs.Places.{Known, Lengths};
 
 // Whether the board keeps the rules; if so, the place of each number on it, 16 for a number that is not there, and how many bookings
 // the diary at each place has.
@@ -21,7 +20,7 @@ pub struct Places {
 }
 
 pub fn places_of(b: Board) -> Places
-    ensures { λ r. ⌜ (r .right ≡ valid b) × ((n : ℕ) → n < 16 → valid b ≡ true → getD (r .places) n 0 ≡ placeOf (lookup b n)) × ((i : ℕ) → i < b .len → valid b ≡ true → getD (r .lens) i 0 ≡ resourceAt b i .timeline .len) × ((i : ℕ) → i < 16 → valid b ≡ true → getD (r .lens) i 0 ≤ 64) ⌝ }
+    ensures { λ r. ⌜ (r .right ≡ valid b) × (valid b ≡ true → Known b (r .places) × Lengths b (r .lens) × ((i : ℕ) → i < 16 → getD (r .lens) i 0 ≤ 64)) ⌝ }
 {
     let len = b.len;
     let mut places: [usize; 16] = [16; 16];

@@ -32,7 +32,8 @@ use Rattle.scheduler.specs.Tests.{or-in-right}
 use Rattle.scheduler.specs.Asking.{nextAsked, Asked, asked-start, asked-on, asked-none, asked-listed, asked-less, asked-all}
 use Rattle.plans.specs.declared.Plan.{Plan}
 use Rattle.plans.specs.Plans.{planWith, planOf}
-use Rattle.seats.specs.Seats.{Known, seatOf}
+use Rattle.board.specs.Places.{Known}
+use Rattle.seats.specs.Seats.{seatOf}
 use Rattle.seats.proofs.Seating.{seat-none, seat-there, seat-diary, seat-units}
 use Rattle.together.specs.declared.Asking.{Asking}
 use Rattle.together.specs.Steps.{answeredBy}

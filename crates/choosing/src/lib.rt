@@ -10,7 +10,7 @@ ghost use Prim.Native.Nat.{_^_, _≤_};
 ghost use Rattle.activity.specs.Check.{activityRefusal};
 ghost use Rattle.board.specs.Valid.{valid};
 ghost use Rattle.scheduler.specs.Choosing.{choosing};
-ghost use Rattle.seats.specs.Seats.{Known};
+ghost use Rattle.board.specs.Places.{Known};
 ghost use Rattle.rounds.specs.Rounds.{choiceOf, Chosen};
 
 // One pass over the board for the plans, then rounds until t stays: in each, what the resources answer to each requirement from t on is

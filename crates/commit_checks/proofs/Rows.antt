@@ -20,9 +20,9 @@ use Rattle.scheduler.specs.Arrays.{take-next}
 use Rattle.scheduler.specs.Committing.{Line, lineOf, linesOf, entriesOn}
 use Rattle.scheduler.specs.Ruled.{diary-at}
 use Rattle.scheduler.specs.Tests.{both-ways}
-use Rattle.seats.specs.Seats.{Known}
 use Rattle.seats.proofs.Knowing.{place-on, number-place}
-use Rattle.commit_checks.specs.Lines.{numbered, metered, roomy, Counted, Lengths}
+use Rattle.board.specs.Places.{Known, Lengths}
+use Rattle.commit_checks.specs.Lines.{numbered, metered, roomy, Counted}
 
 -- the lines are the first rows, read one by one
 pub lines-rows : (n : ℕ) (slate : List (List ℕ)) → linesOf n slate ≡ map lineOf (take n slate)

@@ -6,8 +6,6 @@ use mathlib.Core.List.{List}
 use lib.ListN.{getD}
 use lib.Dec.{leb, ltb}
 use Rattle.calendar.specs.Limits.{mostUnits}
-use Rattle.board.specs.declared.Board.{Board}
-use Rattle.board.specs.Resources.{resourceAt}
 use Rattle.scheduler.specs.Committing.{lineOf, linesOf, entriesOn}
 
 -- the row names a number that has a place
@@ -25,7 +23,3 @@ roomy places lens tally row = leb (getD lens (getD places (lineOf row .number) 0
 -- how many of the first n rows name each number
 abbrev pub Counted : List (List ℕ) → ℕ → List ℕ → Type 0
 Counted slate n tally = (k : ℕ) → k < 16 → getD tally k 0 ≡ entriesOn k (linesOf n slate)
-
--- how many bookings the diary at each place has
-abbrev pub Lengths : Board → List ℕ → Type 0
-Lengths b lens = (i : ℕ) → i < b .len → getD lens i 0 ≡ resourceAt b i .timeline .len

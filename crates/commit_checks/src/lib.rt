@@ -9,8 +9,8 @@ ghost use Rattle.calendar.specs.Every.{every};
 ghost use Rattle.board.specs.declared.Board as declared;
 ghost use Rattle.board.specs.Valid.{valid};
 ghost use Rattle.scheduler.specs.Committing.{linesOf, linesRefusal};
-ghost use Rattle.seats.specs.Seats.{Known};
-ghost use Rattle.commit_checks.specs.Lines.{numbered, metered, roomy, Counted, Lengths};
+ghost use Rattle.board.specs.Places.{Known, Lengths};
+ghost use Rattle.commit_checks.specs.Lines.{numbered, metered, roomy, Counted};
 
 // Each of the first `count` rows names a resource on the board.
 fn numbers_right(slate: &[[u64; 4]], count: usize, places: [usize; 16]) -> bool

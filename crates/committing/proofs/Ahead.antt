@@ -27,7 +27,7 @@ use Rattle.scheduler.specs.Committing.{Line, lineOf, linesOf, entriesOn, withBo
 use Rattle.scheduler.specs.Committed.{Bookable, Right, Room, step-long, lookup-after, after-keeps, right-after, room-after}
 use Rattle.scheduler.specs.Lists.{Each, each-on, each-map}
 use Rattle.scheduler.specs.Ruled.{diary-at}
-use Rattle.seats.specs.Seats.{Known}
+use Rattle.board.specs.Places.{Known}
 use Rattle.seats.proofs.Knowing.{number-place}
 
 -- a booking that is not refused

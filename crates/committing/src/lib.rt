@@ -14,8 +14,7 @@ ghost use Rattle.board.specs.declared.Board as declared;
 ghost use Rattle.board.specs.Valid.{valid};
 ghost use Rattle.scheduler.specs.Committing.{booked, commitRefusal, commitReply};
 ghost use Rattle.scheduler.specs.Committed.{Bookable};
-ghost use Rattle.seats.specs.Seats.{Known};
-ghost use Rattle.commit_checks.specs.Lines.{Lengths};
+ghost use Rattle.board.specs.Places.{Known, Lengths};
 
 // The resource with a booking more; one with a matrix takes the category, unless it is a companion.
 fn book_on(r: Resource, start: u64, end: u64, category: u8, units: u32, companion: bool) -> Resource

@@ -21,7 +21,7 @@ use Rattle.scheduler.specs.Fitting.{sharesOf}
 use Rattle.scheduler.specs.Shares.{sharesTo, timelinesOf, unitsOf, shares-whole, Wanted}
 use Rattle.scheduler.specs.Events.{eventsOf}
 use Rattle.scheduler.specs.Owning.{ownShare, own-valid}
-use Rattle.seats.specs.Seats.{Known}
+use Rattle.board.specs.Places.{Known}
 use Rattle.seats.proofs.Knowing.{number-place}
 use Rattle.entries.specs.Parts.{noEntry}
 

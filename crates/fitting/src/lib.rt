@@ -17,7 +17,7 @@ ghost use Rattle.board.specs.Valid.{valid};
 ghost use Rattle.scheduler.specs.Alone.{earliestOf};
 ghost use Rattle.scheduler.specs.Fitting.{sharesOf};
 ghost use Rattle.scheduler.specs.Owning.{ownShare};
-ghost use Rattle.seats.specs.Seats.{Known};
+ghost use Rattle.board.specs.Places.{Known};
 ghost use Rattle.entries.specs.Parts.{noEntry};
 ghost use Rattle.fitting.specs.Jointly.{fitOf};
 

@@ -9,8 +9,7 @@ use borrow.Author.Tests.{lt-ltb, le-ltb, eq-eqb, ne-eqb}
 use lib.ListN.{length, getD, set, take, drop, length-set, length-append}
 use lib.Seq.{take-suc-set, getD-take, length-take-le}
 use lib.Dec.{eqb, ltb}
-use Rattle.board.proofs.Facts.{same-side}
-use Rattle.calendar.specs.Basics.{same-or-not}
+use Rattle.board.proofs.Counts.{countTo, count-none, count-most, count-more}
 use Rattle.scheduler.specs.declared.Entry.{Entry}
 use Rattle.scheduler.specs.Fitting.{among, joinEach, companionEntry}
 use Rattle.scheduler.specs.Events.{among-append}
@@ -25,39 +24,17 @@ join-last held joined [] c = refl
 join-last held joined (x ∷ cs) c = join-last held (cond (among x held || among x joined) joined (joined ++ (x ∷ []))) cs c
 
 -- how many of the first m numbers are in a list
-unfoldable pub tally : List ℕ → ℕ → ℕ
-tally xs zero = 0
-tally xs (suc m) = tally xs m + cond (among m xs) 1 0
-
-one-most : (p : Bool) → cond p 1 0 ≤ 1
-one-most true = omega arith
-one-most false = omega arith
-
-tally-most : (xs : List ℕ) (m : ℕ) → tally xs m ≤ m
-unfolding tally
-tally-most xs zero = omega arith
-tally-most xs (suc m) = omega (arith, tally-most xs m, one-most (among m xs))
-
-tally-none : (m : ℕ) → tally [] m ≡ 0
-unfolding tally among
-tally-none zero = refl
-tally-none (suc m) = rw (tally-none m) refl
+abbrev tally : List ℕ → ℕ → ℕ
+tally xs m = countTo (λ n. among n xs) m
 
 -- a number that was not in it counts once
 tally-more : (xs : List ℕ) (c : ℕ) → among c xs ≡ false → (m : ℕ) → tally (xs ++ (c ∷ [])) m ≡ tally xs m + cond (ltb c m) 1 0
-unfolding tally among
-tally-more xs c e zero = rw (le-ltb c 0 (omega arith)) refl
-tally-more xs c e (suc m) =
-    ⊎-elim
-    (λ (z : c ≡ m).
-    let x : among m (xs ++ (c ∷ [])) ≡ true = among-append m xs (c ∷ []) ∙ rw (← z, e, eq-eqb c c refl) refl in
-    let y : among m xs ≡ false = rw (← z) e in
-    rw (tally-more xs c e m, x, y, le-ltb c m (omega arith), lt-ltb c (suc m) (omega arith)) (omega arith))
-    (λ (z : m ≡ c → ⊥).
-    let x : among m (xs ++ (c ∷ [])) ≡ among m xs = among-append m xs (c ∷ []) ∙ rw (ne-eqb c m (λ w. z (sym w))) (or-false (among m xs)) in
-    let y : ltb c (suc m) ≡ ltb c m = same-side c m z in
-    rw (tally-more xs c e m, x, y) (omega arith))
-    (same-or-not c m)
+unfolding among
+tally-more xs c e m =
+    count-more (λ n. among n xs) (λ n. among n (xs ++ (c ∷ []))) c e
+    (among-append c xs (c ∷ []) ∙ rw (e, eq-eqb c c refl) refl)
+    (λ k ne. among-append k xs (c ∷ []) ∙ rw (ne-eqb c k (λ w. ne (sym w))) (or-false (among k xs)))
+    m
 
 -- k cells of xs are those of es and the joined ones, each once
 pub record Joined (es : List Entry) (n : ℕ) (js : List ℕ) (xs : List Entry) (k : ℕ) : Type 0 where
@@ -68,11 +45,12 @@ pub record Joined (es : List Entry) (n : ℕ) (js : List ℕ) (xs : List Entry) 
   pub once : length js ≡ tally js 16
 
 pub joined-none : (n : ℕ) (xs : List Entry) → n ≤ 8 → length xs ≡ 24 → Joined (take n xs) n [] xs n
-joined-none n xs l e = record { long = e; first = l; count = omega arith; entries = sym (append-nil (take n xs)); once = sym (tally-none 16) }
+unfolding among
+joined-none n xs l e = record { long = e; first = l; count = omega arith; entries = sym (append-nil (take n xs)); once = sym (count-none (λ n. among n []) (λ k. refl) 16) }
 
 module _ (es : List Entry) (n : ℕ) (js : List ℕ) (xs : List Entry) (k : ℕ) (j : Joined es n js xs k) where
   pub joined-few : k ≤ 24
-  joined-few = omega (arith, j .first, j .count, j .once, tally-most js 16)
+  joined-few = omega (arith, j .first, j .count, j .once, count-most (λ n. among n js) 16)
 
   -- those already there
   pub joined-numbers : (c : ℕ) → among c (map numberIn (take k xs)) ≡ among c (map numberIn es) || among c js
@@ -86,7 +64,7 @@ module _ (es : List Entry) (n : ℕ) (js : List ℕ) (xs : List Entry) (k : ℕ)
     more = length-append js (c ∷ []) ∙ sym (tally-more js c new 16 ∙ rw (lt-ltb c 16 l) (omega (arith, j .once)))
 
     pub joined-room : k < 24
-    joined-room = omega (arith, j .first, j .count, more, length-append js (c ∷ []), tally-most (js ++ (c ∷ [])) 16)
+    joined-room = omega (arith, j .first, j .count, more, length-append js (c ∷ []), count-most (λ n. among n (js ++ (c ∷ []))) 16)
 
     pub joined-on : Joined es n (js ++ (c ∷ [])) (set xs k (companionEntry c)) (k + 1)
     joined-on = record {

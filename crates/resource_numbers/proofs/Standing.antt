@@ -9,8 +9,8 @@ use native.Mathlib.Omega.{arith}
 use lib.Dec.{leb, ltb}
 use lib.ListN.{getD}
 use Rattle.calendar.specs.Basics.{lt-or-ge, not-both}
-use Rattle.board.specs.Places.{placeOf}
-use Rattle.board.specs.Resources.{lookup, isAt, onBoard}
+use Rattle.board.specs.Places.{Known}
+use Rattle.board.specs.Resources.{isAt, onBoard}
 use Rattle.board.specs.Valid.{valid}
 use Rattle.board.specs.declared.Board.{Board}
 use Rattle.board.proofs.Facts.{rules, off-above}
@@ -21,11 +21,11 @@ unfolding isAt
 off b n v l = rw (off-above b n v (omega arith)) refl
 
 -- whether a number is on the board, by the table
-pub on-is : (b : Board) (n : ℕ) (places : List ℕ) → valid b ≡ true → ((k : ℕ) → k < 16 → valid b ≡ true → getD places k 0 ≡ placeOf (lookup b k))
+pub on-is : (b : Board) (n : ℕ) (places : List ℕ) → valid b ≡ true → Known b places
     → leb n 15 && ltb (getD places n 0) 16 ≡ onBoard b n
 on-is b n places v s =
     ⊎-elim
-    (λ (l : n < 16). rw (le-leb n 15 (omega arith), s n l v) (place-on b (b .len) n (rules b v .few)))
+    (λ (l : n < 16). rw (le-leb n 15 (omega arith), s n l) (place-on b (b .len) n (rules b v .few)))
     (λ (l : 16 ≤ n). rw (lt-leb n 15 (omega arith)) (sym (off b n v l)))
     (lt-or-ge n 16)
 

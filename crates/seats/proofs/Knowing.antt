@@ -13,7 +13,7 @@ use Rattle.board.specs.Valid.{valid}
 use Rattle.board.proofs.Facts.{rules}
 use Rattle.board.proofs.Meaning.{resource-of, lookup-means}
 use Rattle.scheduler.specs.Ruled.{on-place}
-use Rattle.seats.specs.Seats.{Known}
+use Rattle.board.specs.Places.{Known}
 
 -- a place under 16 is the place of the number
 place-known : (f : Found) (p : ℕ) → p ≡ placeOf f → p < 16 → f ≡ at p

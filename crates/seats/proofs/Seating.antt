@@ -20,7 +20,8 @@ use Rattle.board.proofs.Meaning.{resource-of}
 use Rattle.scheduler.specs.Alone.{oneUnit, resourceIn, companionsOf, withCompanions}
 use Rattle.scheduler.specs.Arrays.{take-next, every-next, every-off}
 use Rattle.scheduler.specs.Shares.{timelinesOf, unitsOf}
-use Rattle.seats.specs.Seats.{Known, placeIn, placed, seatOf}
+use Rattle.board.specs.Places.{Known}
+use Rattle.seats.specs.Seats.{placeIn, placed, seatOf}
 use Rattle.seats.proofs.Knowing.{place-on, place-none, number-place}
 
 -- one put behind a list

@@ -1,18 +1,10 @@
--- The places of the numbers on a board, and of a resource and its companions, as the code keeps them.
-use Prim.Native.Nat.{ℕ, _<_}
-use mathlib.Core.Path.{_≡_}
+-- The places of a resource and its companions, as the code keeps them.
+use Prim.Native.Nat.{ℕ}
 use mathlib.Core.Bool.{Bool, cond}
 use mathlib.Core.List.{List, _∷_, map}
 use lib.ListN.{getD}
 use lib.Dec.{ltb}
 use Rattle.calendar.specs.Every.{every}
-use Rattle.board.specs.declared.Board.{Board}
-use Rattle.board.specs.Resources.{lookup}
-use Rattle.board.specs.Places.{placeOf}
-
--- the place of each number, looked up once
-abbrev pub Known : Board → List ℕ → Type 0
-Known b places = (n : ℕ) → n < 16 → getD places n 0 ≡ placeOf (lookup b n)
 
 abbrev pub placeIn : List ℕ → ℕ → ℕ
 placeIn places n = getD places n 0

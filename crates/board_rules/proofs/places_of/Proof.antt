@@ -120,7 +120,7 @@ returns-5 c =
     let b = c .before .before .before .before .before .before .before .args .t1 in
     let s = read-all b (c .before .before .before .before .before .loop .i) (c .before .before .before .before .before .loop .places) (c .before .before .before .before .before .loop .inv .3) (omega arith) in
     let r = c .before .before .before .before .before .loop .inv .6 in
-    (c .transport-right .ensures ∙ transport-same b (c .before .before .before .before .before .loop .places) s (omega arith) ∙ sym (valid-end b (c .before .before .before .before .before .loop .i) (omega arith) (c .before .before .before .before .before .loop .inv .4)), (λ n l h. s .place n l), (λ k l h. r k (omega arith)), λ k l h. rw (r k (omega arith)) (few-bookings b h k l))
+    (c .transport-right .ensures ∙ transport-same b (c .before .before .before .before .before .loop .places) s (omega arith) ∙ sym (valid-end b (c .before .before .before .before .before .loop .i) (omega arith) (c .before .before .before .before .before .loop .inv .4)), λ h. (s .place, (λ k l. r k (omega arith)), λ k l. rw (r k (omega arith)) (few-bookings b h k l)))
 
 pub places-of-spec : {M : Type 1} → statement M
 places-of-spec =

@@ -41,19 +41,19 @@ is-on-requires c κs = search needs
 returns-5 : tie.Need-returns-5
 returns-5 c =
     let v = sym (c .before .before .before .before .before .before .before .before .before .before .before .places-of .ensures .0) ∙ not-false _ (c .before .before .before .before .before .before .before .before .before .if1 .left) in
-    let o = on-is _ (c .before .before .before .before .before .before .before .before .before .before .before .before .before .args .number) (c .before .before .before .before .before .before .before .before .before .before .before .places-of .result .places) v (c .before .before .before .before .before .before .before .before .before .before .before .places-of .ensures .1) in
+    let o = on-is _ (c .before .before .before .before .before .before .before .before .before .before .before .before .before .args .number) (c .before .before .before .before .before .before .before .before .before .before .before .places-of .result .places) v (c .before .before .before .before .before .before .before .before .before .before .before .places-of .ensures .1 v .0) in
     add-there _ _ _ _ v (sym (c .before .before .before .before .before .before .before .before .is-valid .ensures) ∙ not-false _ (c .before .before .before .before .before .before .before .if2 .left)) (omega arith) (sym (c .before .before .before .before .before .numbers-right .ensures) ∙ not-false _ (c .before .before .before .before .if4 .left)) (sym o ∙ sym (c .before .is-on .ensures) ∙ c .if5 .taken)
 
 returns-6 : tie.Need-returns-6
 returns-6 c =
     let v = sym (c .before .before .before .before .before .before .before .before .before .before .before .before .places-of .ensures .0) ∙ not-false _ (c .before .before .before .before .before .before .before .before .before .before .if1 .left) in
-    let o = on-is _ (c .before .before .before .before .before .before .before .before .before .before .before .before .before .before .args .number) (c .before .before .before .before .before .before .before .before .before .before .before .before .places-of .result .places) v (c .before .before .before .before .before .before .before .before .before .before .before .before .places-of .ensures .1) in
+    let o = on-is _ (c .before .before .before .before .before .before .before .before .before .before .before .before .before .before .args .number) (c .before .before .before .before .before .before .before .before .before .before .before .before .places-of .result .places) v (c .before .before .before .before .before .before .before .before .before .before .before .before .places-of .ensures .1 v .0) in
     add-many _ _ _ _ v (sym (c .before .before .before .before .before .before .before .before .before .is-valid .ensures) ∙ not-false _ (c .before .before .before .before .before .before .before .before .if2 .left)) (omega arith) (sym (c .before .before .before .before .before .before .numbers-right .ensures) ∙ not-false _ (c .before .before .before .before .before .if4 .left)) (sym o ∙ sym (c .before .before .is-on .ensures) ∙ c .before .if5 .left) (omega arith)
 
 returns-7 : tie.Need-returns-7
 returns-7 c =
     let v = sym (c .before .before .before .before .before .before .before .before .before .before .before .before .places-of .ensures .0) ∙ not-false _ (c .before .before .before .before .before .before .before .before .before .before .if1 .left) in
-    let o = on-is _ (c .before .before .before .before .before .before .before .before .before .before .before .before .before .before .args .number) (c .before .before .before .before .before .before .before .before .before .before .before .before .places-of .result .places) v (c .before .before .before .before .before .before .before .before .before .before .before .before .places-of .ensures .1) in
+    let o = on-is _ (c .before .before .before .before .before .before .before .before .before .before .before .before .before .before .args .number) (c .before .before .before .before .before .before .before .before .before .before .before .before .places-of .result .places) v (c .before .before .before .before .before .before .before .before .before .before .before .before .places-of .ensures .1 v .0) in
     add-0 _ _ _ _ v (sym (c .before .before .before .before .before .before .before .before .before .is-valid .ensures) ∙ not-false _ (c .before .before .before .before .before .before .before .before .if2 .left)) (omega arith) (sym (c .before .before .before .before .before .before .numbers-right .ensures) ∙ not-false _ (c .before .before .before .before .before .if4 .left)) (sym o ∙ sym (c .before .before .is-on .ensures) ∙ c .before .if5 .left) (omega arith)
 
 pub add-refusal-spec : {M : Type 1} → statement M

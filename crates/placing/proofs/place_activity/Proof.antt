@@ -86,7 +86,7 @@ choose-requires c κs =
     let x = accepted (a .a) (a .ready) (o .2) in
     let from : c .before .before .before .before .before .ready-of .result ≡ readyOf (a .a .release) (a .ready) = c .before .before .before .before .before .ready-of .ensures in
     let w : activityRefusal (a .a) (c .before .before .before .before .before .ready-of .result) ≡ 0 = rw from (ready-lawful (a .a) (a .ready) (o .2)) in
-    (v .0, w, omega (arith, c .if3 .taken), λ n l. c .before .before .before .before .before .before .before .before .before .before .before .before .places-of .ensures .1 n l (v .0))
+    (v .0, w, omega (arith, c .if3 .taken), c .before .before .before .before .before .before .before .before .before .before .before .before .places-of .ensures .1 (v .0) .0)
 
 returns-3 : tie.Need-returns-3
 unfolding told slateAfter
@@ -160,7 +160,7 @@ fit-resumable-requires c κs =
     let o = order-right (a .a) (a .ready) (length (a .slate .now)) (v .1) in
     let x = accepted (a .a) (a .ready) (o .2) in
     let s = joined (c .before .before) in
-    ((v .0, λ n l. c .before .before .before .before .before .before .before .before .before .before .before .before .before .before .places-of .ensures .1 n l (v .0), o .0, s .entries .few, s .instant, s .short), s .entries .each)
+    ((v .0, c .before .before .before .before .before .before .before .before .before .before .before .before .before .before .places-of .ensures .1 (v .0) .0, o .0, s .entries .few, s .instant, s .short), s .entries .each)
 
 fit-unbroken-requires : tie.Need-fit-unbroken-requires
 fit-unbroken-requires c κs =
@@ -169,7 +169,7 @@ fit-unbroken-requires c κs =
     let o = order-right (a .a) (a .ready) (length (a .slate .now)) (v .1) in
     let x = accepted (a .a) (a .ready) (o .2) in
     let s = joined (c .before .before) in
-    ((v .0, λ n l. c .before .before .before .before .before .before .before .before .before .before .before .before .before .before .places-of .ensures .1 n l (v .0), o .0, s .entries .few, s .instant, s .short), s .entries .each)
+    ((v .0, c .before .before .before .before .before .before .before .before .before .before .before .before .before .before .places-of .ensures .1 (v .0) .0, o .0, s .entries .few, s .instant, s .short), s .entries .each)
 
 -- the fit of the two as the order says
 fit-is : (c : tie.Joined5) → fitOf (c .if5 .f) ≡ closing (c .before .before .before .before .before .before .before .before .before .before .before .before .before .before .before .args .a .resumable) (ownShare (c .before .before .before .before .before .before .before .before .before .before .before .before .before .before .before .args .a .calendar) ∷ sharesOf (c .before .before .before .before .before .before .before .before .before .before .before .before .before .before .before .args .b) (take (c .before .before .if3 .e .count) (c .before .before .if3 .e .entries))) (c .before .before .if3 .span) (c .before .before .if3 .t)

@@ -27,13 +27,13 @@ array-read-i c = search needs
 returns-3 : tie.Need-returns-3
 returns-3 c =
     let v = sym (c .before .before .before .before .before .places-of .ensures .0) ∙ not-false _ (c .before .before .before .if1 .left) in
-    let e = c .before .before .before .before .before .places-of .ensures .1 (c .before .before .before .before .before .before .args .number) (omega arith) v in
+    let e = c .before .before .before .before .before .places-of .ensures .1 v .0 (c .before .before .before .before .before .before .args .number) (omega arith) in
     entry-off _ _ v (omega (arith, e))
 
 returns-4 : tie.Need-returns-4
 returns-4 c =
     let v = sym (c .before .before .before .before .before .places-of .ensures .0) ∙ not-false _ (c .before .before .before .if1 .left) in
-    let e = c .before .before .before .before .before .places-of .ensures .1 (c .before .before .before .before .before .before .args .number) (omega arith) v in
+    let e = c .before .before .before .before .before .places-of .ensures .1 v .0 (c .before .before .before .before .before .before .args .number) (omega arith) in
     entry-on _ _ _ v (omega (arith, e)) (omega arith)
 
 pub entry-for-spec : {M : Type 1} → statement M
