@@ -10,7 +10,7 @@ use Rattle.resource_numbers.specs.Entry.{entryAt, entryFor}
 use Rattle.board.specs.Resources.{resourceAt, lookup, isAt, onBoard}
 use Rattle.board.specs.Valid.{valid}
 use Rattle.board.specs.declared.Board.{Board}
-use Rattle.resource_numbers.specs.declared.Entry.{Entry}
+use Rattle.resource_numbers.specs.declared.PlaceFor.{PlaceFor}
 use Rattle.board.proofs.Replying.{refused-by}
 use Rattle.resource_numbers.proofs.Finding.{entry-refusal}
 use Rattle.timeline.specs.declared.ResourceTimeline.{ResourceTimeline}
@@ -26,7 +26,7 @@ module _ (b : Board) (number : ℕ) where
   looked-of true nothing h = refl
   looked-of true (at i) h = absurd (h refl)
 
-  pub looked-refused : (e : Entry) (t : ResourceTimeline) → e ≡ entryFor b number → (e .refusal ≡ 0 → ⊥) → t ≡ blankDiary
+  pub looked-refused : (e : PlaceFor) (t : ResourceTimeline) → e ≡ entryFor b number → (e .refusal ≡ 0 → ⊥) → t ≡ blankDiary
       → record { refusal = e .refusal; timeline = t } ≡ timelineOfReply b number
   unfolding timelineOfReply entryFor
   looked-refused e t q h p = rw (p, q) (looked-of (valid b) (lookup b number) (rw q at h))
@@ -41,7 +41,7 @@ module _ (b : Board) (number : ℕ) (t : ResourceTimeline) where
   unfolding putTimelineReply putRefusal
   put-wrong w = refused-by 15 _ b _ (rw (w, or-true (not (valid b))) refl) (λ z. omega arith)
 
-  pub put-refused : (e : Entry) → timeline.valid t ≡ true → e ≡ entryFor b number → (e .refusal ≡ 0 → ⊥) → record { refusal = e .refusal; board = b } ≡ putTimelineReply b number t
+  pub put-refused : (e : PlaceFor) → timeline.valid t ≡ true → e ≡ entryFor b number → (e .refusal ≡ 0 → ⊥) → record { refusal = e .refusal; board = b } ≡ putTimelineReply b number t
   unfolding putTimelineReply putRefusal
   put-refused e w q h =
       refused-by (e .refusal) _ b _ (rw (w, or-false (not (valid b))) (rw (and-true (onBoard b number)) at (entry-refusal b number e 0 q h true))) h

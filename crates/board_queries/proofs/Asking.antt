@@ -29,7 +29,7 @@ use Rattle.board.proofs.Meaning.{transport-is}
 use Rattle.desk.specs.declared.Desk.{Desk}
 use Rattle.board_records.specs.declared.Stepped.{Stepped}
 use Rattle.board_queries.specs.declared.Turn.{Turn}
-use Rattle.resource_numbers.specs.declared.Entry.{Entry}
+use Rattle.resource_numbers.specs.declared.PlaceFor.{PlaceFor}
 use Rattle.resource_numbers.specs.Entry.{entryAt, entryFor}
 use Rattle.resource_numbers.proofs.Standing.{on-small}
 use Rattle.calendar.specs.Refusals.{refusedOr, refused-by}
@@ -41,7 +41,7 @@ use Rattle.board_records.specs.Records.{stepReply}
 use Rattle.board_queries.specs.Asks.{placeRefusal, durationLine, lastOf, setupReply, transportReply, servesReply, heldAt, askLen, askReply, runLen, told, ends, turnReply}
 
 -- what looking up a number answers: its refusal, or where it stands
-pub record Located (b : Board) (number : ℕ) (r : Entry) : Type 0 where
+pub record Located (b : Board) (number : ℕ) (r : PlaceFor) : Type 0 where
   pub number-refusal : r .refusal ≡ placeRefusal b number
   pub rules-kept : r .refusal ≡ 0 → valid b ≡ true
   pub stands : r .refusal ≡ 0 → lookup b number ≡ at (r .place)
@@ -49,7 +49,7 @@ pub record Located (b : Board) (number : ℕ) (r : Entry) : Type 0 where
 
 -- looking up a number
 module _ (b : Board) (number : ℕ) where
-  pub located : (r : Entry) → r ≡ entryFor b number → Located b number r
+  pub located : (r : PlaceFor) → r ≡ entryFor b number → Located b number r
   unfolding placeRefusal entryFor entryAt isAt
   located r e = rw e (go (valid b) refl (lookup b number) refl)
     where
@@ -63,10 +63,10 @@ module _ (b : Board) (number : ℕ) where
           record { number-refusal = rw (v, g) refl; rules-kept = λ z. v; stands = λ z. g; low = λ z. (l, omega (arith, on-small b number v (rw g refl))) }
 
   -- the refusal of a number, then the rest
-  pub refused-place : (r : Entry) (rest : Answer) → Located b number r → (r .refusal ≡ 0 → ⊥) → Refused (r .refusal) ≡ refusedOr Refused (placeRefusal b number) rest
+  pub refused-place : (r : PlaceFor) (rest : Answer) → Located b number r → (r .refusal ≡ 0 → ⊥) → Refused (r .refusal) ≡ refusedOr Refused (placeRefusal b number) rest
   refused-place r rest q h = rw (← q .number-refusal) (refused-by Refused (r .refusal) rest h)
 
-  pub taken-place : (r : Entry) (a rest : Answer) → Located b number r → r .refusal ≡ 0 → a ≡ rest → a ≡ refusedOr Refused (placeRefusal b number) rest
+  pub taken-place : (r : PlaceFor) (a rest : Answer) → Located b number r → r .refusal ≡ 0 → a ≡ rest → a ≡ refusedOr Refused (placeRefusal b number) rest
   unfolding refusedOr
   taken-place r a rest q h e = rw (sym (q .number-refusal) ∙ h) e
 
@@ -78,7 +78,7 @@ pub a-last : (c : ℕ) → c ≤ 15 → (Category c ≡ lastOf c) × (lastRight 
 unfolding lastOf lastRight
 a-last c h = (rw (le-ltb 15 c h) refl, le-leb c 15 h)
 
-module _ (b : Board) (number last category own : ℕ) (r : Entry) (q : Located b number r) where
+module _ (b : Board) (number last category own : ℕ) (r : PlaceFor) (q : Located b number r) where
   pub setup-place : (r .refusal ≡ 0 → ⊥) → Refused (r .refusal) ≡ setupReply b number last category own
   unfolding setupReply
   setup-place h = refused-place b number r _ q h
@@ -97,7 +97,7 @@ module _ (b : Board) (number last category own : ℕ) (r : Entry) (q : Located b
   setup-is before ms h l m f e =
       taken-place b number r _ _ q h (rw (le-ltb 15 category l, le-ltb (2 ^ 36) own m, q .stands h, ← f, ← e) refl)
 
-module _ (b : Board) (origins to : ℕ) (r : Entry) (q : Located b to r) where
+module _ (b : Board) (origins to : ℕ) (r : PlaceFor) (q : Located b to r) where
   pub transport-place : (r .refusal ≡ 0 → ⊥) → Refused (r .refusal) ≡ transportReply b origins to
   unfolding transportReply
   transport-place h = refused-place b to r _ q h
@@ -106,7 +106,7 @@ module _ (b : Board) (origins to : ℕ) (r : Entry) (q : Located b to r) where
   unfolding transportReply
   transport-to ms h e = taken-place b to r _ _ q h (ap Transport (e ∙ transport-is b (q .rules-kept h) origins to (q .low h .1)))
 
-module _ (b : Board) (w : ResourceRequirement) (number : ℕ) (r : Entry) (q : Located b number r) where
+module _ (b : Board) (w : ResourceRequirement) (number : ℕ) (r : PlaceFor) (q : Located b number r) where
   pub serves-place : (r .refusal ≡ 0 → ⊥) → Refused (r .refusal) ≡ servesReply b w number
   unfolding servesReply
   serves-place h = refused-place b number r _ q h

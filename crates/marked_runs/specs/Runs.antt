@@ -76,7 +76,7 @@ broken = record {
   blocks = record { starts = 40 ∷ replicate 31 0; ends = 60 ∷ replicate 31 0; len = 1 };
 }
 
--- a diary of capacity 1 with one booking
+-- a diary with one booking of one unit more
 abbrev pub booked : ResourceTimeline → ℕ → ℕ → ResourceTimeline
 booked t s e = bookReply t s e 1 .timeline
 

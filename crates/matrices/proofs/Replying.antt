@@ -15,12 +15,12 @@ use Rattle.board.specs.declared.Board.{Board}
 use Rattle.board.specs.declared.TransitionMatrix.{TransitionMatrix}
 use Rattle.board.proofs.Replying.{refused-by, taken-by}
 use Rattle.resource_numbers.proofs.Finding.{entry-refusal}
-use Rattle.resource_numbers.specs.declared.Entry.{Entry}
+use Rattle.resource_numbers.specs.declared.PlaceFor.{PlaceFor}
 use Rattle.resource_numbers.specs.Entry.{entryFor}
 
 -- a matrix
 module _ (b : Board) (number : ℕ) (d i : ℤ) where
-  pub matrix-refused : (e : Entry) → e ≡ entryFor b number → (e .refusal ≡ 0 → ⊥) → record { refusal = e .refusal; board = b } ≡ setMatrixReply b number d i
+  pub matrix-refused : (e : PlaceFor) → e ≡ entryFor b number → (e .refusal ≡ 0 → ⊥) → record { refusal = e .refusal; board = b } ≡ setMatrixReply b number d i
   unfolding setMatrixReply matrixRefusal
   matrix-refused e q h =
       refused-by (e .refusal) _ b _ (rw (and-true (onBoard b number)) at (entry-refusal b number e (cond (not (durationRight d && durationRight i)) 1 0) q h true)) h
@@ -36,7 +36,7 @@ module _ (b : Board) (number : ℕ) (d i : ℤ) where
 
 -- an entry of a matrix
 module _ (b : Board) (number : ℕ) (more : Bool) (ms : ℤ) (after : Board) where
-  pub entry-refused : (e : Entry) → e ≡ entryFor b number → (e .refusal ≡ 0 → ⊥) → record { refusal = e .refusal; board = b } ≡ entered (entryRefusal b number more ms) b after
+  pub entry-refused : (e : PlaceFor) → e ≡ entryFor b number → (e .refusal ≡ 0 → ⊥) → record { refusal = e .refusal; board = b } ≡ entered (entryRefusal b number more ms) b after
   unfolding entryRefusal
   entry-refused e q h = refused-by (e .refusal) _ b after (entry-refusal b number e (cond (not (entryRight ms)) 1 0) q h more) h
 

@@ -10,7 +10,7 @@ use Rattle.board.specs.Valid.{valid}
 use Rattle.board.specs.declared.Board.{Board}
 use Rattle.board.proofs.Facts.{rules, off-above}
 use Rattle.board.proofs.Seeing.{lookup-below}
-use Rattle.resource_numbers.specs.declared.Entry.{Entry}
+use Rattle.resource_numbers.specs.declared.PlaceFor.{PlaceFor}
 use Rattle.resource_numbers.specs.Entry.{entryAt, entryFor}
 
 -- 15 and 5 by the board and the number
@@ -66,11 +66,11 @@ module _ (b : Board) (number : ℕ) where
 pub found-below : (b : Board) (number i : ℕ) → valid b ≡ true → lookup b number ≡ at i → i < 16
 found-below b number i v e = omega (arith, lookup-below b (b .len) number i e, rules b v .few)
 
-pub entry-at : (b : Board) (number : ℕ) (e : Entry) → e ≡ entryFor b number → e .refusal ≡ 0 → (valid b ≡ true) × (lookup b number ≡ at (e .place))
-entry-at b number e q h = rw q (entry-found b number (ap (λ (x : Entry). x .refusal) (sym q) ∙ h))
+pub entry-at : (b : Board) (number : ℕ) (e : PlaceFor) → e ≡ entryFor b number → e .refusal ≡ 0 → (valid b ≡ true) × (lookup b number ≡ at (e .place))
+entry-at b number e q h = rw q (entry-found b number (ap (λ (x : PlaceFor). x .refusal) (sym q) ∙ h))
 
-pub entry-refusal : (b : Board) (number : ℕ) (e : Entry) (rest : ℕ) → e ≡ entryFor b number → (e .refusal ≡ 0 → ⊥) → (more : Bool)
+pub entry-refusal : (b : Board) (number : ℕ) (e : PlaceFor) (rest : ℕ) → e ≡ entryFor b number → (e .refusal ≡ 0 → ⊥) → (more : Bool)
     → e .refusal ≡ cond (not (valid b)) 15 (cond (not (onBoard b number && more)) 5 rest)
 entry-refusal b number e rest q h more =
-    let p = ap (λ (x : Entry). x .refusal) q in
+    let p = ap (λ (x : PlaceFor). x .refusal) q in
     p ∙ entry-number b number more rest (λ z. h (p ∙ z))

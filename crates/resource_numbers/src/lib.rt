@@ -17,23 +17,23 @@ pub fn is_on(places: &[usize; 16], number: u8) -> bool
 }
 
 // The refusal of an entry for a resource by the board and its number, 0 for none; then its place.
-pub struct Entry {
+pub struct PlaceFor {
     pub refusal: u8,
     pub place: usize,
 }
 
-pub fn entry_for(b: Board, number: u8) -> Entry
+pub fn entry_for(b: Board, number: u8) -> PlaceFor
     ensures { λ r. ⌜ r ≡ entryFor b number ⌝ }
 {
     let p = board_rules::places_of(b);
     if !p.right {
-        return Entry {
+        return PlaceFor {
             refusal: 15,
             place: 0,
         };
     }
     if number > 15 {
-        return Entry {
+        return PlaceFor {
             refusal: 5,
             place: 0,
         };
@@ -41,12 +41,12 @@ pub fn entry_for(b: Board, number: u8) -> Entry
     let places = p.places;
     let i = places[number as usize];
     if i >= 16 {
-        return Entry {
+        return PlaceFor {
             refusal: 5,
             place: 0,
         };
     }
-    Entry {
+    PlaceFor {
         refusal: 0,
         place: i,
     }
