@@ -1,7 +1,7 @@
 -- 01, 'Calendar': working time, joint working time, and when resumable work ends.
 use Prim.Native.Nat.{ℕ, zero, suc, _+_, _-_, max}
 use mathlib.Core.Bool.{Bool, true, false, not, _&&_}
-use mathlib.Core.List.{List, [], _∷_, map}
+use mathlib.Core.List.{List, map}
 use Rattle.calendar.specs.declared.Calendar.{Calendar}
 use Rattle.calendar.specs.Search.{Found, nothing, at, greatestOf}
 use Rattle.calendar.specs.Every.{every}
