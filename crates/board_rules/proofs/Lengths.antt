@@ -3,13 +3,12 @@ use mathlib.Core.Path.{_≡_, sym, _∙_}
 use mathlib.Core.Bool.{true, false, true≢false}
 use mathlib.Core.Logic.{⊎-elim}
 use mathlib.Core.List.{List}
-use Prim.Native.Nat.{ℕ, _+_, _≤_, _<_}
+use Prim.Native.Nat.{ℕ, _≤_, _<_}
 use native.Mathlib.Omega.{arith}
-use lib.ListN.{length, getD, set}
+use lib.ListN.{getD}
 use lib.Dec.{eqb}
-use lib.Seq.{getD-set-same, getD-set-other}
 use borrow.Author.Tests.{eqb-true}
-use Rattle.calendar.specs.Basics.{and-split, lt-or-ge, same-or-not}
+use Rattle.calendar.specs.Basics.{and-split, lt-or-ge}
 use Rattle.timeline.proofs.Rules as timeline
 use Rattle.board.specs.declared.Board.{Board}
 use Rattle.board.specs.declared.Resource.{Resource}
@@ -39,16 +38,9 @@ few-bookings b v i l =
     (λ (m : b .len ≤ i). omega (arith, blank-len (resourceAt b i) (rules b v .blank i m l)))
     (lt-or-ge i (b .len))
 
--- the diaries so far are read: one more
+-- the diaries so far are read
 abbrev pub Read : Board → ℕ → List ℕ → Type 0
 Read b i lens = (k : ℕ) → k < i → getD lens k 0 ≡ resourceAt b k .timeline .len
-
-pub read-next : (b : Board) (i : ℕ) (lens : List ℕ) → i < length lens → Read b i lens → Read b (i + 1) (set lens i (resourceAt b i .timeline .len))
-read-next b i lens l h k m =
-    ⊎-elim
-    (λ (z : i ≡ k). rw (← z) (getD-set-same lens i (resourceAt b i .timeline .len) 0 l))
-    (λ (z : k ≡ i → ⊥). getD-set-other lens i k (resourceAt b i .timeline .len) 0 z ∙ h k (omega (arith, z)))
-    (same-or-not i k)
 
 -- a board that breaks the rules promises no places and no lengths
 pub refuted : (b : Board) (places lens : List ℕ) → valid b ≡ false

@@ -9,59 +9,17 @@ use borrow.Author.Tests.{lt-ltb, le-ltb, eq-eqb, ne-eqb}
 use Rattle.calendar.specs.Basics.{lt-or-ge}
 use Rattle.bodies.specs.Bodies.{byte, fixedLen, lenOf, whole, bodyLen}
 
-pub is-1 : (k : ℕ) → k ≡ 1 → fixedLen k ≡ 4
-unfolding fixedLen
-is-1 k e = ap fixedLen e
-
-pub is-2 : (k : ℕ) → k ≡ 2 → fixedLen k ≡ 16
-unfolding fixedLen
-is-2 k e = ap fixedLen e
-
-pub is-3 : (k : ℕ) → k ≡ 3 → fixedLen k ≡ 16
-unfolding fixedLen
-is-3 k e = ap fixedLen e
-
-pub is-4 : (k : ℕ) → k ≡ 4 → fixedLen k ≡ 20
-unfolding fixedLen
-is-4 k e = ap fixedLen e
-
-pub is-17 : (k : ℕ) → k ≡ 17 → fixedLen k ≡ 17
-unfolding fixedLen
-is-17 k e = ap fixedLen e
-
-pub is-18 : (k : ℕ) → k ≡ 18 → fixedLen k ≡ 11
-unfolding fixedLen
-is-18 k e = ap fixedLen e
-
-pub is-19 : (k : ℕ) → k ≡ 19 → fixedLen k ≡ 10
-unfolding fixedLen
-is-19 k e = ap fixedLen e
-
-pub is-20 : (k : ℕ) → k ≡ 20 → fixedLen k ≡ 10
-unfolding fixedLen
-is-20 k e = ap fixedLen e
-
-pub is-21 : (k : ℕ) → k ≡ 21 → fixedLen k ≡ 38
-unfolding fixedLen
-is-21 k e = ap fixedLen e
-
-pub is-22 : (k : ℕ) → k ≡ 22 → fixedLen k ≡ 19
-unfolding fixedLen
-is-22 k e = ap fixedLen e
-
-pub is-23 : (k : ℕ) → k ≡ 23 → fixedLen k ≡ 9
-unfolding fixedLen
-is-23 k e = ap fixedLen e
-
-pub is-24 : (k : ℕ) → k ≡ 24 → fixedLen k ≡ 25
-unfolding fixedLen
-is-24 k e = ap fixedLen e
+-- which kind it is (with `fixedLen` unfolded, its length)
+pub fixed-at : (k n : ℕ) → k ≡ n → fixedLen k ≡ fixedLen n
+fixed-at k n e = ap fixedLen e
 
 pub two-three : (k : ℕ) → 2 ≤ k → k ≤ 3 → fixedLen k ≡ 16
-two-three k l h = ⊎-elim (λ (e : 2 ≡ k). is-2 k (sym e)) (λ (a : 2 < k). is-3 k (omega arith)) (eq-or-lt-of-le l)
+unfolding fixedLen
+two-three k l h = ⊎-elim (λ (e : 2 ≡ k). fixed-at k 2 (sym e)) (λ (a : 2 < k). fixed-at k 3 (omega arith)) (eq-or-lt-of-le l)
 
 pub nineteen-twenty : (k : ℕ) → 19 ≤ k → k ≤ 20 → fixedLen k ≡ 10
-nineteen-twenty k l h = ⊎-elim (λ (e : 19 ≡ k). is-19 k (sym e)) (λ (a : 19 < k). is-20 k (omega arith)) (eq-or-lt-of-le l)
+unfolding fixedLen
+nineteen-twenty k l h = ⊎-elim (λ (e : 19 ≡ k). fixed-at k 19 (sym e)) (λ (a : 19 < k). fixed-at k 20 (omega arith)) (eq-or-lt-of-le l)
 
 -- no other kind is known
 pub unknown : (k : ℕ) → (k ≡ 1 → ⊥) → (k ≡ 2 → ⊥) → (k ≡ 3 → ⊥) → (k ≡ 4 → ⊥) → (k ≡ 17 → ⊥) → (k ≡ 18 → ⊥) → (k ≡ 19 → ⊥) → (k ≡ 20 → ⊥) → (k ≡ 21 → ⊥) → (k ≡ 22 → ⊥) → (k ≡ 23 → ⊥) → (k ≡ 24 → ⊥) → fixedLen k ≡ 0
@@ -83,12 +41,13 @@ from-seventeen k l h =
 
 -- an entry of the board has at least ten bytes
 pub ten : (k : ℕ) → 17 ≤ k → k ≤ 20 → 10 ≤ fixedLen k
+unfolding fixedLen
 ten k l h =
-    ⊎-elim (λ (e : 17 ≡ k). omega (arith, is-17 k (sym e)))
+    ⊎-elim (λ (e : 17 ≡ k). omega (arith, fixed-at k 17 (sym e)))
     (λ (a : 17 < k).
-    ⊎-elim (λ (e : 18 ≡ k). omega (arith, is-18 k (sym e)))
+    ⊎-elim (λ (e : 18 ≡ k). omega (arith, fixed-at k 18 (sym e)))
     (λ (b : 18 < k).
-    ⊎-elim (λ (e : 19 ≡ k). omega (arith, is-19 k (sym e))) (λ (d : 19 < k). omega (arith, is-20 k (omega arith))) (eq-or-lt-of-le (omega arith)))
+    ⊎-elim (λ (e : 19 ≡ k). omega (arith, fixed-at k 19 (sym e))) (λ (d : 19 < k). omega (arith, fixed-at k 20 (omega arith))) (eq-or-lt-of-le (omega arith)))
     (eq-or-lt-of-le (omega arith)))
     (eq-or-lt-of-le l)
 
@@ -128,10 +87,11 @@ from-one (suc k) h p = omega arith
 
 -- a part of an order has at least nine bytes
 pub nine : (k : ℕ) → 22 ≤ k → k ≤ 24 → 9 ≤ fixedLen k
+unfolding fixedLen
 nine k l h =
-    ⊎-elim (λ (e : 22 ≡ k). omega (arith, is-22 k (sym e)))
+    ⊎-elim (λ (e : 22 ≡ k). omega (arith, fixed-at k 22 (sym e)))
     (λ (a : 22 < k).
-    ⊎-elim (λ (e : 23 ≡ k). omega (arith, is-23 k (sym e))) (λ (b : 23 < k). omega (arith, is-24 k (omega arith))) (eq-or-lt-of-le (omega arith)))
+    ⊎-elim (λ (e : 23 ≡ k). omega (arith, fixed-at k 23 (sym e))) (λ (b : 23 < k). omega (arith, fixed-at k 24 (omega arith))) (eq-or-lt-of-le (omega arith)))
     (eq-or-lt-of-le l)
 
 pub whole-le : (rest len : ℕ) → whole rest len ≤ rest

@@ -1,18 +1,18 @@
 -- Adding a span: the refusals in their order, and that what is taken keeps the rules.
 use mathlib.Core.Path.{_≡_, refl}
-use mathlib.Core.Bool.{Bool, true, false, not, cond, _||_}
+use mathlib.Core.Bool.{true, false, not, _||_}
 use mathlib.Core.Logic.{⊎-elim}
 use Prim.Native.Nat.{ℕ, zero, suc, _^_, _≤_, _<_}
 use native.Mathlib.Omega.{arith}
 use lib.ListN.{length}
 use lib.Seq.{getD-set-same, getD-set-other}
 use lib.Dec.{leb, ltb}
-use borrow.Author.Tests.{le-leb, lt-leb, lt-ltb, le-ltb, leb-false, ltb-false}
+use borrow.Author.Tests.{not-false, le-leb, lt-leb, lt-ltb, le-ltb, leb-false, ltb-false}
 use Rattle.calendar.specs.declared.TimeWindows.{TimeWindows}
 use Rattle.calendar.specs.declared.Calendar.{Calendar}
 use Rattle.calendar.specs.Valid.{spansRight, valid}
 use Rattle.calendar.specs.Add.{addRefusal, withSpan, added}
-use Rattle.calendar.specs.Basics.{and-join, same-or-not}
+use Rattle.calendar.specs.Basics.{and-join, or-right, same-or-not, unrefused}
 use Rattle.calendar.proofs.Rules.{right, righted}
 
 module _ (c : Calendar) (n s e : ℕ) where
@@ -49,24 +49,17 @@ module _ (c : Calendar) (n s e : ℕ) where
 
   pub taken : addRefusal c n s e ≡ 0 → Taken
   unfolding addRefusal
-  taken = at-valid (valid c) refl
-    where
-      at-few : (b : Bool) → leb 32 n ≡ b → valid c ≡ true → e ≤ 2 ^ 42 → s < e → _≡_ {A = ℕ} (cond b 4 0) 0 → Taken
-      at-few true q v a l z = absurd (omega arith)
-      at-few false q v a l z = record { ruled = v; ends = a; long = l; place = leb-false 32 n q }
-
-      at-long : (b : Bool) → leb e s ≡ b → valid c ≡ true → e ≤ 2 ^ 42 → _≡_ {A = ℕ} (cond b 2 (cond (leb 32 n) 4 0)) 0 → Taken
-      at-long true q v a z = absurd (omega arith)
-      at-long false q v a z = at-few (leb 32 n) refl v a (leb-false e s q) z
-
-      at-instants : (b d : Bool) → ltb (2 ^ 42) s ≡ b → ltb (2 ^ 42) e ≡ d → valid c ≡ true → _≡_ {A = ℕ} (cond (b || d) 1 (cond (leb e s) 2 (cond (leb 32 n) 4 0))) 0 → Taken
-      at-instants true d q r v z = absurd (omega arith)
-      at-instants false true q r v z = absurd (omega arith)
-      at-instants false false q r v z = at-long (leb e s) refl v (ltb-false (2 ^ 42) e r) z
-
-      at-valid : (b : Bool) → valid c ≡ b → _≡_ {A = ℕ} (cond (not b) 15 (cond (ltb (2 ^ 42) s || ltb (2 ^ 42) e) 1 (cond (leb e s) 2 (cond (leb 32 n) 4 0)))) 0 → Taken
-      at-valid true v z = at-instants (ltb (2 ^ 42) s) (ltb (2 ^ 42) e) refl refl v z
-      at-valid false v z = absurd (omega arith)
+  taken z =
+      let x0 = unrefused (not (valid c)) 14 _ z in
+      let x1 = unrefused (ltb (2 ^ 42) s || ltb (2 ^ 42) e) 0 _ (x0 .1) in
+      let x2 = unrefused (leb e s) 1 _ (x1 .1) in
+      let x3 = unrefused (leb 32 n) 3 0 (x2 .1) in
+      record {
+        ruled = not-false (valid c) (x0 .0);
+        ends = ltb-false (2 ^ 42) e (or-right (ltb (2 ^ 42) s) (ltb (2 ^ 42) e) (x1 .0));
+        long = leb-false e s (x2 .0);
+        place = leb-false 32 n (x3 .0);
+      }
 
 -- a refusal's reply, and that of a span that is taken
 pub added-refused : (n m : ℕ) (c more : Calendar) → n ≡ m → (n ≡ 0 → ⊥) → record { refusal = n; calendar = c } ≡ added m c more

@@ -1,4 +1,4 @@
--- The rules of a calendar as facts; spans with one more keep them.
+-- The rules of a calendar as facts, from the test and back.
 use mathlib.Core.Path.{_≡_, refl}
 use mathlib.Core.Bool.{Bool, true, false, _&&_, cond}
 use mathlib.Core.Logic.{⊎-elim}

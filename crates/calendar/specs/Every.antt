@@ -122,6 +122,17 @@ module _ (P : ℕ → Bool) where
       let e : n - i ≡ 0 = omega arith in
       rw e refl
 
+  -- what is left decides as all do: index i fails, passes, or there is none left
+  module _ {b : Bool} {i n : ℕ} (v : b ≡ everyFrom P i (n - i)) where
+    pub from-stop : i < n → P i ≡ false → false ≡ b
+    from-stop l e = sym (v ∙ from-step i n l ∙ rw e refl)
+
+    pub from-more : i < n → P i ≡ true → b ≡ everyFrom P (i + 1) (n - (i + 1))
+    from-more l e = v ∙ from-step i n l ∙ rw e refl
+
+    pub from-done : n ≤ i → true ≡ b
+    from-done l = sym (v ∙ from-end i n l)
+
   pub from-at : (i k : ℕ) → everyFrom P i k ≡ true → (j : ℕ) → i ≤ j → j < i + k → P j ≡ true
   unfolding everyFrom
   from-at i zero e j h l = absurd (omega arith)

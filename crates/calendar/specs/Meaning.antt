@@ -16,6 +16,7 @@ use Rattle.calendar.specs.Basics.{and-split, lt-or-ge, same-or-not, not-
 use Rattle.calendar.specs.Search.{Found, nothing, at, leastFrom, greatestOf}
 use Rattle.calendar.specs.Spans.{Span, spanAt, spansFrom, spans, any, holds, meets, contains}
 use Rattle.calendar.specs.Fits.{openFor, fits}
+use Rattle.calendar.specs.Every.{every}
 use Rattle.calendar.specs.Work.{working, joint, endFrom, workEnd, latest, lastChange, jointEnd}
 use Rattle.calendar.specs.Add.{withSpan}
 use Rattle.calendar.specs.Spanning.{open-some, open-by-none, open-by-some, any-some, any-none, some-any, none-any, holds-yes, holds-facts, meets-yes, meets-no, contains-yes, contains-no, contains-facts}
@@ -411,7 +412,7 @@ open-past [] q r a b = refl
 open-past (w ∷ l) q r a b = past-all (w ∷ l) q a ∙ sym (past-all (w ∷ l) r b)
 
 joint-past : (cs : List Calendar) (q r : ℕ) → lastChange cs ≤ q → lastChange cs ≤ r → joint cs q ≡ joint cs r
-unfolding joint lastChange working greatestOf
+unfolding joint every lastChange working greatestOf
 joint-past [] q r a b = refl
 joint-past (c ∷ cs) q r a b =
     rw (open-past (spans (c .windows)) q r (omega arith) (omega arith), past-all (spans (c .blocks)) q (omega arith), past-all (spans (c .blocks)) r (omega arith), joint-past cs q r (omega arith) (omega arith)) refl
@@ -427,7 +428,7 @@ joint-end-found cs p w e q = work-end-found (lastChange cs) (joint cs) p w e q
 pub joint-end-none : (cs : List Calendar) (p w : ℕ) → jointEnd cs p w ≡ nothing → (joint cs p ≡ false) ⊎ ((n : ℕ) → worked (joint cs) p n < w)
 joint-end-none cs p w q = work-end-none (lastChange cs) (joint cs) p w (joint-changeless cs) q
 
--- A window that is taken stands behind the others, and the blocks stay.
+-- A span that is taken stands behind the others.
 spans-kept : (l : TimeWindows) (s e i k : ℕ) → i + k ≤ l .len → spansFrom (withSpan l s e) i k ≡ spansFrom l i k
 unfolding spansFrom withSpan
 spans-kept l s e i zero h = refl

@@ -40,6 +40,17 @@ any-end P l i n h =
     let e : n - i ≡ 0 = omega arith in
     rw e
 
+-- what is left decides as all do: span i passes, fails, or there is none left
+module _ (P : Span → Bool) (l : TimeWindows) {b : Bool} {i n : ℕ} (v : b ≡ any P (spansFrom l i (n - i))) where
+  pub any-stop : i < n → P (spanAt l i) ≡ true → true ≡ b
+  any-stop h e = sym (v ∙ any-step P l i n h ∙ rw e refl)
+
+  pub any-more : i < n → P (spanAt l i) ≡ false → b ≡ any P (spansFrom l (i + 1) (n - (i + 1)))
+  any-more h e = v ∙ any-step P l i n h ∙ rw e refl
+
+  pub any-done : n ≤ i → false ≡ b
+  any-done h = sym (v ∙ any-end P l i n h)
+
 -- the last of n spans, taken first
 pub any-last : (P : Span → Bool) (l : TimeWindows) (i n : ℕ) → any P (spansFrom l i (suc n)) ≡ any P (spansFrom l i n) || P (spanAt l (i + n))
 unfolding any spansFrom

@@ -1,9 +1,10 @@
 -- 01, 'Calendar': working time, joint working time, and when resumable work ends.
 use Prim.Native.Nat.{ℕ, zero, suc, _+_, _-_, max}
 use mathlib.Core.Bool.{Bool, true, false, not, _&&_}
-use mathlib.Core.List.{List, [], _∷_, map}
+use mathlib.Core.List.{List, map}
 use Rattle.calendar.specs.declared.Calendar.{Calendar}
 use Rattle.calendar.specs.Search.{Found, nothing, at, greatestOf}
+use Rattle.calendar.specs.Every.{every}
 use Rattle.calendar.specs.Spans.{Span, spans, any, contains}
 use Rattle.calendar.specs.Fits.{openFor}
 
@@ -13,8 +14,7 @@ working c p = openFor (contains p) (spans (c .windows)) && not (any (contains p)
 
 -- joint working time is what all named calendars share
 unfoldable pub joint : List Calendar → ℕ → Bool
-joint [] p = true
-joint (c ∷ cs) p = working c p && joint cs p
+joint cs p = every (λ c. working c p) cs
 
 -- w milliseconds of work, from p on and within n milliseconds: each millisecond of W takes one off, and the end is one past the last
 unfoldable pub endFrom : (ℕ → Bool) → ℕ → ℕ → ℕ → Found

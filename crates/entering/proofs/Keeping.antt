@@ -11,7 +11,7 @@ use lib.Dec.{leb, eqb}
 use lib.IntN.{ℤ, pos}
 use lib.ListN.{length, getD, set, replicate, getD-replicate}
 use lib.Seq.{getD-set-same, getD-set-other}
-use Rattle.calendar.specs.Basics.{and-split, and-join, lt-or-ge, same-or-not}
+use Rattle.calendar.specs.Basics.{and-split, and-join, lt-or-ge, same-or-not, unrefused}
 use Rattle.calendar.specs.Search.{Found, nothing, at}
 use Rattle.board.specs.Enter.{entered, companionCells, newResource, withNew, addResourceReply, matrixRefusal, newMatrix, withMatrix, setMatrixReply, entryRefusal, matrixOf, withTransition, withInitial, setTransitionReply, setInitialReply, withTransport, setTransportReply, withTimeline, putRefusal, putTimelineReply}
 use Rattle.board.specs.Resources.{noResource, resourceAt, numberAt, lookupTo, isAt, onBoard}
@@ -219,30 +219,23 @@ module _ (b : Board) (r : Resource) (long : length (b .resources) ≡ 16) (v : v
         transport = λ k m. wider k (u .transport k m);
       })
 
--- the tests that no refusal passed
-two : (v o q : Bool) → _≡_ {A = ℕ} (cond (not v) 15 (cond (not o) 5 (cond (not q) 1 0))) 0 → q ≡ true
-two true true true e = refl
-two true true false e = absurd (omega arith)
-two true false q e = absurd (omega arith)
-two false o q e = absurd (omega arith)
-
-one : (v o : Bool) → _≡_ {A = ℕ} (cond v 15 (cond (not o) 5 0)) 0 → v ≡ false
-one false o e = refl
-one true o e = absurd (omega arith)
+-- the last of three checks that were passed
+third : (v o q : Bool) → _≡_ {A = ℕ} (cond (not v) 15 (cond (not o) 5 (cond (not q) 1 0))) 0 → q ≡ true
+third v o q e = not-false q (unrefused (not q) 0 0 (unrefused (not o) 4 _ (unrefused (not v) 14 _ e .1) .1) .0)
 
 module _ (b : Board) (long : length (b .resources) ≡ 16) (v : valid b ≡ true) where
   pub set-matrix-keeps : (number : ℕ) (d i : ℤ) → valid (setMatrixReply b number d i .board) ≡ true
   unfolding setMatrixReply matrixRefusal
   set-matrix-keeps number d i =
       entered-keeps _ b _ v (λ z.
-      let w = and-split (durationRight d) (durationRight i) (two (valid b) (onBoard b number) (durationRight d && durationRight i) z) in
+      let w = and-split (durationRight d) (durationRight i) (third (valid b) (onBoard b number) (durationRight d && durationRight i) z) in
       changed-keeps b number (withMatrix (newMatrix d i)) long v (λ k l. (remade _ _ (rules b v .right k l) (new-right d i (w .0) (w .1)), refl)))
 
   pub set-transition-keeps : (number last this : ℕ) (ms : ℤ) → valid (setTransitionReply b number last this ms .board) ≡ true
   unfolding setTransitionReply entryRefusal
   set-transition-keeps number last this ms =
       entered-keeps _ b _ v (λ z.
-      let w = two (valid b) (onBoard b number && (leb last 15 && leb this 15)) (entryRight ms) z in
+      let w = third (valid b) (onBoard b number && (leb last 15 && leb this 15)) (entryRight ms) z in
       changed-keeps b number _ long v (λ k l.
       let r = rules b v .right k l in
       let o = of-right (resourceAt b k .matrix) (resource-rules _ r .matrix) in
@@ -252,7 +245,7 @@ module _ (b : Board) (long : length (b .resources) ≡ 16) (v : valid b ≡ true
   unfolding setInitialReply entryRefusal
   set-initial-keeps number category ms =
       entered-keeps _ b _ v (λ z.
-      let w = two (valid b) (onBoard b number && leb category 15) (entryRight ms) z in
+      let w = third (valid b) (onBoard b number && leb category 15) (entryRight ms) z in
       changed-keeps b number _ long v (λ k l.
       let r = rules b v .right k l in
       let o = of-right (resourceAt b k .matrix) (resource-rules _ r .matrix) in
@@ -262,7 +255,7 @@ module _ (b : Board) (long : length (b .resources) ≡ 16) (v : valid b ≡ true
   unfolding putTimelineReply putRefusal
   put-timeline-keeps number t =
       entered-keeps _ b _ v (λ z.
-      let w = one (not (valid b) || not (timeline.valid t)) (onBoard b number) z in
+      let w = unrefused (not (valid b) || not (timeline.valid t)) 14 _ z .0 in
       let u : timeline.valid t ≡ true = not-false _ (rw v at w) in
       changed-keeps b number (withTimeline t) long v (λ k l. (rewritten _ t (rules b v .right k l) u, refl)))
 

@@ -1,12 +1,12 @@
 -- The replies of entries, over plain values: each refusal in its order, and what an accepted entry leaves.
-use borrow.Author.Tests.{ltb-false, lt-ltb, le-ltb}
-use mathlib.Core.Bool.{Bool, true, false, not, cond, _||_}
+use borrow.Author.Tests.{not-false, ltb-false, lt-ltb, le-ltb}
+use mathlib.Core.Bool.{Bool, true, false, not, _||_}
 use mathlib.Core.List.{List}
 use mathlib.Core.Path.{_≡_, refl}
 use Prim.Native.Nat.{ℕ, _≤_, _<_}
-use native.Mathlib.Omega.{arith}
 use lib.Dec.{leb, ltb}
 use lib.ListN.{length}
+use Rattle.calendar.specs.Basics.{or-left, or-right, unrefused}
 use Rattle.calendar.specs.Every.{every}
 use Rattle.board.specs.Enter.{addRefusal}
 use Rattle.board.specs.Resources.{onBoard}
@@ -59,27 +59,21 @@ module _ (b : Board) (number : ℕ) (companions : List ℕ) (t : ResourceTimelin
     pub few : length companions ≤ 4
     pub room : b .len < 16
 
-  chosen : (v w n s o m : Bool) → _≡_ {A = ℕ} (cond (not v || not w) 15 (cond (n || not s) 5 (cond (o || m) 4 0))) 0
-      → (v ≡ true) × (w ≡ true) × (n ≡ false) × (s ≡ true) × (o ≡ false) × (m ≡ false)
-  chosen true true false true false false e = (refl, refl, refl, refl, refl, refl)
-  chosen true true false true false true e = absurd (omega arith)
-  chosen true true false true true m e = absurd (omega arith)
-  chosen true true false false o m e = absurd (omega arith)
-  chosen true true true s o m e = absurd (omega arith)
-  chosen true false n s o m e = absurd (omega arith)
-  chosen false w n s o m e = absurd (omega arith)
-
   pub add-taken : addRefusal b number companions t ≡ 0 → Taken
   unfolding addRefusal
   add-taken e =
-      let f = chosen (valid b) (timeline.valid t) (ltb 15 number) small (onBoard b number) (ltb 4 (length companions)) e in
-      let low : number ≤ 15 = ltb-false 15 number (f .2) in
+      let x0 = unrefused (not (valid b) || not (timeline.valid t)) 14 _ e in
+      let x1 = unrefused (ltb 15 number || not small) 4 _ (x0 .1) in
+      let x2 = unrefused (onBoard b number || ltb 4 (length companions)) 3 0 (x1 .1) in
+      let board : valid b ≡ true = not-false _ (or-left (not (valid b)) (not (timeline.valid t)) (x0 .0)) in
+      let low : number ≤ 15 = ltb-false 15 number (or-left (ltb 15 number) (not small) (x1 .0)) in
+      let new : onBoard b number ≡ false = or-left (onBoard b number) (ltb 4 (length companions)) (x2 .0) in
       record {
-        board = f .0;
-        diary = f .1;
+        board = board;
+        diary = not-false _ (or-right (not (valid b)) (not (timeline.valid t)) (x0 .0));
         low = low;
-        each = f .3;
-        new = f .4;
-        few = ltb-false 4 (length companions) (f .5);
-        room = place-left b number (f .0) low (f .4);
+        each = not-false _ (or-right (ltb 15 number) (not small) (x1 .0));
+        new = new;
+        few = ltb-false 4 (length companions) (or-right (onBoard b number) (ltb 4 (length companions)) (x2 .0));
+        room = place-left b number board low new;
       }

@@ -1,16 +1,15 @@
 -- What `work_end` over a layout is of the calendars that were laid out, and where a layout's pieces begin.
-use mathlib.Core.Path.{_≡_, refl, sym, ap, _∙_}
-use mathlib.Core.Bool.{true, false, _&&_}
-use mathlib.Core.List.{List, [], _∷_}
+use mathlib.Core.Path.{_≡_, sym, ap, _∙_}
+use mathlib.Core.Bool.{Bool, true, false}
+use mathlib.Core.List.{List}
 use mathlib.Core.Logic.{_⊎_, ⊎-elim}
 use Prim.Native.Nat.{ℕ, zero, suc, _+_, _-_, _≤_, _<_}
 use native.Mathlib.Omega.{arith}
 use lib.ListN.{getD}
-use lib.Dec.{leb}
-use borrow.Author.Tests.{le-leb, lt-leb}
+use borrow.Author.Tests.{lt-leb}
 use Rattle.calendar.specs.declared.Calendar.{Calendar}
-use Rattle.calendar.specs.Basics.{and-true, lt-or-ge, not-both}
-use Rattle.calendar.specs.Work.{working, joint, workEnd, lastChange, jointEnd}
+use Rattle.calendar.specs.Basics.{lt-or-ge, not-both}
+use Rattle.calendar.specs.Work.{joint, workEnd, lastChange, jointEnd}
 use Rattle.calendar.specs.Meaning.{Changeless, work-end-same, joint-changeless}
 use Rattle.work_ends.specs.Layout.{passed, odd, laid, lastCell, Edges, Layout, Before}
 use Rattle.work_ends.proofs.Passing.{passed-all}
@@ -22,17 +21,10 @@ unfolding laid
 laid-changeless xs n y q h =
     ap odd (passed-all xs n q (λ k l. omega (arith, last-most xs n k y l)) ∙ sym (passed-all xs n (lastCell xs n) (λ k l. last-most xs n k y l)))
 
--- work from x on, over the joint working time of the calendars from some instant at or before x on
-pub layout-end : (cs : List Calendar) (from : ℕ) (xs : List ℕ) (n x w : ℕ) → Layout (λ p. leb from p && joint cs p) xs n → from ≤ x → workEnd (lastCell xs n) (laid xs n) x w ≡ jointEnd cs x w
-layout-end cs from xs n x w y h =
-    work-end-same (lastCell xs n) (lastChange cs) (laid xs n) (joint cs) x w (laid-changeless xs n (y .edges)) (joint-changeless cs)
-    (λ q l. y .means q ∙ rw (le-leb from q (omega arith)) refl)
-
-pub layout-end-one : (c : Calendar) (xs : List ℕ) (n x w : ℕ) → Layout (working c) xs n → workEnd (lastCell xs n) (laid xs n) x w ≡ jointEnd (c ∷ []) x w
-unfolding joint
-layout-end-one c xs n x w y =
-    work-end-same (lastCell xs n) (lastChange (c ∷ [])) (laid xs n) (joint (c ∷ [])) x w (laid-changeless xs n (y .edges)) (joint-changeless (c ∷ []))
-    (λ q l. y .means q ∙ sym (and-true (working c q)))
+-- work from x on, over a layout of what from x on is the joint working time of the calendars
+pub layout-end : (cs : List Calendar) (W : ℕ → Bool) (xs : List ℕ) (n x w : ℕ) → Layout W xs n → ((q : ℕ) → x ≤ q → W q ≡ joint cs q) → workEnd (lastCell xs n) (laid xs n) x w ≡ jointEnd cs x w
+layout-end cs W xs n x w y h =
+    work-end-same (lastCell xs n) (lastChange cs) (laid xs n) (joint cs) x w (laid-changeless xs n (y .edges)) (joint-changeless cs) (λ q l. y .means q ∙ h q l)
 
 -- the edges part at every instant
 pub parted : (xs : List ℕ) (n p : ℕ) → Edges xs n → Before xs n (p + 1) (passed xs n p)

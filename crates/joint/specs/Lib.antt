@@ -1,3 +1,3 @@
--- Joint working time laid out once, and what the functions over a layout answer.
+-- Calendars that keep the rules; what the parts of a sweep answer.
 pub mod Layout
 pub mod Sweep

@@ -10,11 +10,10 @@ use Rattle.calendar.specs.Search.{leastFrom}
 use Rattle.calendar.specs.Spans.{spansFrom}
 use Rattle.calendar.specs.Valid as calendar
 use Rattle.calendar.specs.Add.{empty}
-use Rattle.timeline.specs.Bookings.{Booking, bookingsTo, bookings, total}
+use Rattle.timeline.specs.Bookings.{Booking, bookingsTo, bookings, total, times, Within}
 use Rattle.timeline.specs.Valid as timeline
 use Rattle.timeline.specs.Diary.{insertBooking, latestEnds, diary}
 use Rattle.timeline.specs.Book.{bookRefusal, taken, bookReply}
-use Rattle.timeline.proofs.Meaning.{times, Within}
 use Rattle.board.specs.declared.Board.{Board}
 use Rattle.board.specs.Resources as resources
 use Rattle.board.specs.Valid as board

@@ -1,10 +1,13 @@
 -- The length of a record's body, by its kind.
 use mathlib.Core.Path.{_≡_, refl, sym, ap}
 use Prim.Native.Nat.{ℕ, zero, suc, _≤_, _<_}
+use mathlib.Core.Logic.{⊎-elim}
+use native.Mathlib.Nat.{eq-or-lt-of-le}
 use native.Mathlib.Omega.{arith}
 use mathlib.Core.Bool.{false}
 use lib.Dec.{eqb}
 use borrow.Author.Tests.{ne-eqb}
+use Rattle.calendar.specs.Basics.{lt-or-ge}
 use Rattle.records.specs.Records.{bodyLen}
 
 pub kind-four : (k : ℕ) → k ≡ 1 → 4 ≡ bodyLen k
@@ -13,22 +16,14 @@ kind-four k e = sym (ap bodyLen e)
 
 pub kind-sixteen : (k : ℕ) → 2 ≤ k → k ≤ 3 → 16 ≡ bodyLen k
 unfolding bodyLen
-kind-sixteen zero l h = absurd (omega arith)
-kind-sixteen (suc zero) l h = absurd (omega arith)
-kind-sixteen (suc (suc zero)) l h = refl
-kind-sixteen (suc (suc (suc zero))) l h = refl
-kind-sixteen (suc (suc (suc (suc k)))) l h = absurd (omega arith)
+kind-sixteen k l h = ⊎-elim (λ (e : 2 ≡ k). ap bodyLen e) (λ (a : 2 < k). sym (ap bodyLen (let e : k ≡ 3 = omega arith in e))) (eq-or-lt-of-le l)
 
 pub kind-twenty : (k : ℕ) → 4 ≤ k → k ≤ 6 → 20 ≡ bodyLen k
 unfolding bodyLen
-kind-twenty zero l h = absurd (omega arith)
-kind-twenty (suc zero) l h = absurd (omega arith)
-kind-twenty (suc (suc zero)) l h = absurd (omega arith)
-kind-twenty (suc (suc (suc zero))) l h = absurd (omega arith)
-kind-twenty (suc (suc (suc (suc zero)))) l h = refl
-kind-twenty (suc (suc (suc (suc (suc zero))))) l h = refl
-kind-twenty (suc (suc (suc (suc (suc (suc zero)))))) l h = refl
-kind-twenty (suc (suc (suc (suc (suc (suc (suc k))))))) l h = absurd (omega arith)
+kind-twenty k l h =
+    ⊎-elim (λ (e : 4 ≡ k). ap bodyLen e)
+    (λ (a : 4 < k). ⊎-elim (λ (e : 5 ≡ k). ap bodyLen e) (λ (b : 5 < k). sym (ap bodyLen (let e : k ≡ 6 = omega arith in e))) (eq-or-lt-of-le a))
+    (eq-or-lt-of-le l)
 
 pub kind-zero : (k : ℕ) → k < 1 → 21 ≡ bodyLen k
 unfolding bodyLen
@@ -46,27 +41,18 @@ kind-more k h =
     let i : eqb k 6 ≡ false = ne-eqb k 6 (λ e. omega arith) in
     simp (a, b, d, f, g, i)
 
--- a body that is known, and not of kind 1, has at least 16 bytes; and not of kinds 1 to 3, at least 20
-pub at-least-sixteen : (k : ℕ) → (k ≡ 1 → ⊥) → 16 ≤ bodyLen k
-unfolding bodyLen
-at-least-sixteen zero h = omega arith
-at-least-sixteen (suc zero) h = absurd (h refl)
-at-least-sixteen (suc (suc zero)) h = omega arith
-at-least-sixteen (suc (suc (suc zero))) h = omega arith
-at-least-sixteen (suc (suc (suc (suc zero)))) h = omega arith
-at-least-sixteen (suc (suc (suc (suc (suc zero))))) h = omega arith
-at-least-sixteen (suc (suc (suc (suc (suc (suc zero)))))) h = omega arith
-at-least-sixteen (suc (suc (suc (suc (suc (suc (suc k))))))) h =
-    rw (← kind-more (suc (suc (suc (suc (suc (suc (suc k))))))) (omega arith)) (omega arith)
-
+-- a body that is known, and not of kinds 1 to 3, has at least 20 bytes; and not of kind 1, at least 16
 pub at-least-twenty : (k : ℕ) → (k ≡ 1 → ⊥) → (k ≡ 2 → ⊥) → (k ≡ 3 → ⊥) → 20 ≤ bodyLen k
-unfolding bodyLen
-at-least-twenty zero h i j = omega arith
-at-least-twenty (suc zero) h i j = absurd (h refl)
-at-least-twenty (suc (suc zero)) h i j = absurd (i refl)
-at-least-twenty (suc (suc (suc zero))) h i j = absurd (j refl)
-at-least-twenty (suc (suc (suc (suc zero)))) h i j = omega arith
-at-least-twenty (suc (suc (suc (suc (suc zero))))) h i j = omega arith
-at-least-twenty (suc (suc (suc (suc (suc (suc zero)))))) h i j = omega arith
-at-least-twenty (suc (suc (suc (suc (suc (suc (suc k))))))) h i j =
-    rw (← kind-more (suc (suc (suc (suc (suc (suc (suc k))))))) (omega arith)) (omega arith)
+at-least-twenty k h i j =
+    ⊎-elim
+    (λ (a : k < 4). omega (arith, kind-zero k (omega (arith, h, i, j))))
+    (λ (a : 4 ≤ k). ⊎-elim (λ (b : k < 7). omega (arith, kind-twenty k a (omega arith))) (λ (b : 7 ≤ k). omega (arith, kind-more k b)) (lt-or-ge k 7))
+    (lt-or-ge k 4)
+
+pub at-least-sixteen : (k : ℕ) → (k ≡ 1 → ⊥) → 16 ≤ bodyLen k
+at-least-sixteen k h =
+    ⊎-elim
+    (λ (a : k < 2). omega (arith, kind-zero k (omega (arith, h))))
+    (λ (a : 2 ≤ k).
+    ⊎-elim (λ (b : k < 4). omega (arith, kind-sixteen k a (omega arith))) (λ (b : 4 ≤ k). omega (arith, at-least-twenty k h (λ e. omega arith) (λ e. omega arith))) (lt-or-ge k 4))
+    (lt-or-ge k 2)

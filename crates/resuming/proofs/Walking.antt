@@ -8,7 +8,7 @@ use native.Mathlib.Omega.{arith}
 use lib.ListN.{length, getD, set, take, length-set}
 use lib.Seq.{getD-set-same, getD-set-other}
 use lib.Dec.{leb, ltb, eqb}
-use borrow.Author.Tests.{lt-ltb, ltb-true, eq-eqb}
+use borrow.Author.Tests.{le-leb, lt-ltb, ltb-true, eq-eqb}
 use Rattle.calendar.specs.Every.{every}
 use Rattle.calendar.specs.declared.Calendar.{Calendar}
 use Rattle.calendar.specs.Basics.{not-both, same-or-not}
@@ -124,7 +124,7 @@ module _ (ts : List ResourceTimeline) (us : List ℕ) (n work from : ℕ) (stops
       layout = y;
       sought = s;
       tried = λ l. record {
-        ends = e l ∙ layout-end (map calendarOf all) from edges len here work y (s .low) ∙ end-none-asked here (end-from here);
+        ends = e l ∙ layout-end (map calendarOf all) (λ p. leb from p && joint (map calendarOf all) p) edges len here work y (λ p h. rw (le-leb from p (omega (arith, s .low))) refl) ∙ end-none-asked here (end-from here);
         later = l;
         listed = inl refl;
         most = omega arith;

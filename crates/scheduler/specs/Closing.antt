@@ -22,7 +22,7 @@ use Rattle.scheduler.specs.Together.{Sound, Calm, all-back, last-calm}
 use Rattle.scheduler.specs.Answering.{Answers}
 
 pub joint-back : (xs : List Share) (y : ℕ) → Calm (suc y) xs → joint (map calendarOf xs) (suc y) ≡ true → joint (map calendarOf xs) y ≡ true
-unfolding joint
+unfolding joint every
 joint-back [] y each-end h = refl
 joint-back (x ∷ xs) y (each-on s c) h =
     let w = and-split (working (x .timeline .calendar) (suc y)) (joint (map calendarOf xs) (suc y)) h in
@@ -37,7 +37,7 @@ all-free-back (x ∷ xs) y e d (each-on s c) l h =
 
 module _ (xs : List Share) (own : Calendar) (y : ℕ) (calm : Calm (suc y) xs) (quiet : Quiet own (suc y)) where
   starts-all-back : (work : ℕ) → startsAll xs own work (suc y) ≡ true → startsAll xs own work y ≡ true
-  unfolding startsAll freeToEnd joint
+  unfolding startsAll freeToEnd joint every
   starts-all-back work h = go (jointEnd (calendarsOf xs own) (suc y) work) refl h
     where
       go : (f : Found) → jointEnd (calendarsOf xs own) (suc y) work ≡ f → freeToEnd xs (suc y) f ≡ true → freeToEnd xs y (jointEnd (calendarsOf xs own) y work) ≡ true

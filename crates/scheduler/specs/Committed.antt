@@ -12,13 +12,12 @@ use borrow.Author.Tests.{leb-true, ltb-false, leb-false, le-leb, eqb-true, eqb-f
 use Rattle.calendar.specs.Basics.{and-split, and-join, lt-or-ge, same-or-not, unrefused}
 use Rattle.calendar.specs.Search.{Found, nothing, at, when}
 use Rattle.timeline.specs.declared.ResourceTimeline.{ResourceTimeline}
-use Rattle.timeline.specs.Bookings.{Booking, bookings}
+use Rattle.timeline.specs.Bookings.{Booking, bookings, times}
 use Rattle.timeline.specs.Valid as timeline
 use Rattle.timeline.specs.Diary.{insertBooking, diary}
 use Rattle.timeline.proofs.Rules as timeline-rules
 use Rattle.timeline.proofs.Rows.{count}
 use Rattle.timeline.proofs.Keeping.{booked-keeps, length-inserted, bookings-diary}
-use Rattle.timeline.proofs.Meaning.{times}
 use Rattle.calendar.specs.Every.{every}
 use Rattle.board.specs.declared.LastCategory.the-variants.{Category}
 use Rattle.board.specs.declared.Resource.{Resource}

@@ -14,7 +14,7 @@ use Rattle.calendar.specs.Work.{jointEnd}
 use Rattle.timeline.specs.Bookings.{bookingsTo}
 use Rattle.timeline.specs.Valid.{valid}
 use Rattle.timeline.specs.Diary.{diary}
-use Rattle.timeline.specs.Free.{load}
+use Rattle.timeline.specs.Free.{tally, load}
 use Rattle.timeline.specs.Earliest.{freeOn, fitsAt}
 use Rattle.timeline.proofs.Loading.{free-yes}
 use Rattle.timeline.proofs.Keeping.{diary-keeps, order-end}
@@ -28,7 +28,7 @@ pub own-valid : (own : Calendar) → calendar.valid own ≡ true → valid (ownS
 own-valid own v = diary-keeps 1 own [] v (omega arith) (omega arith) (omega arith) order-end
 
 own-free : (own : Calendar) (s e : ℕ) → freeOn (ownShare own .timeline) 1 s e ≡ true
-unfolding diary bookingsTo load
+unfolding diary bookingsTo load tally
 own-free own s e = free-yes 1 [] 1 s e (record { few = omega arith; fits = λ p w. omega arith })
 
 -- on all of them: the test of the definition

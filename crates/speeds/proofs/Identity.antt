@@ -44,13 +44,13 @@ same-parts m n (negsuc a) (negsuc b) o p h =
     (r .0, ap negsuc (suc-inj (sym (r .1))))
 
 -- what `fits` says of a value above 0
-record Held (f : Format) (m : ℕ) (e : ℤ) : Type 0 where
+pub record Held (f : Format) (m : ℕ) (e : ℤ) : Type 0 where
   pub odd : m % 2 ≡ 1
   pub few : m < 2 ^ prec f
   pub deep : down e ≤ 2 ^ low f
   pub high : m * up e < 2 ^ suc (emax f) * down e
 
-held : (f : Format) (s : Bool) (m : ℕ) (e : ℤ) → 0 < m → T (fits f (fin s m e)) → Held f m e
+pub held : (f : Format) (s : Bool) (m : ℕ) (e : ℤ) → 0 < m → T (fits f (fin s m e)) → Held f m e
 unfolding fits
 held f s zero e h t = absurd (lt-irrefl 0 h)
 held f s (suc m) e h t =

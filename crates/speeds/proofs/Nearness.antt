@@ -3,14 +3,14 @@ use mathlib.Core.Path.{_≡_, refl, sym, ap, _∙_, subst}
 use Prim.Native.Nat.{ℕ, zero, suc, _+_, _-_, _*_, _/_, _%_, _^_, _≤_, _<_, compare, Ordering, Ordering·lt, Ordering·eq, Ordering·gt}
 use native.Mathlib.Nat.{le-trans, le-of-lt, le-of-eq, lt-of-lt-of-le, lt-of-not-le, lt-irrefl, zero-lt-suc, mul-pos, mul-one, one-mul, mul-assoc, mul-comm, mul-right-comm, mul-le-mul-right, mul-le-mul-left, mul-le-mul, mul-lt-mul-of-pos-right, le-of-mul-le-mul-right, mod-lt, div-add-mod', div-lt-iff-lt-mul, mul-div-cancel, div-one, le-of-suc-le-suc}
 use native.Mathlib.Omega.{arith}
-use mathlib.Core.Bool.{Bool, true, false, not, _&&_, _||_, cond}
-use lib.IntN.{ℤ, pos, negsuc}
-use lib.Dec.{T, isLe, isEq, leb, ltb, eqb, leb→le, nleb→lt, ltb→lt, eqb→eq, eqb-refl, lit≤}
+use mathlib.Core.Bool.{Bool, true, false, not, _||_, cond}
+use lib.IntN.{pos, negsuc}
+use lib.Dec.{T, isLe, isEq, eqb, leb→le, nleb→lt, eqb→eq, eqb-refl, lit≤}
 use lib.Arith.{lt-of-le-ne}
 use lib.Pow.{pow-add, pow-pos, pow-mono}
-use lib.Ieee.{Float, nan, inf, fin, Format, binary64, prec, low, emax, up, down, size, nearest, round, eq, div, ofInt, fits}
+use lib.Ieee.{Float, nan, inf, fin, Format, binary64, prec, low, up, down, size, nearest, round, eq, div, ofInt, fits}
 use lib.Ieee.Digits.{size-le}
-use lib.Ieee.Fits.{down-pos, and-l, and-r}
+use lib.Ieee.Fits.{down-pos, and-l}
 use lib.Ieee.Exact.{HasValue}
 use lib.Ieee.Nearest.{closest}
 use lib.Ieee.Order.{drop, kept}
@@ -18,6 +18,7 @@ use lib.Ieee.Positive.{num, den, positive, den-pos}
 use lib.Ieee.Scale.{grid, finite, round-val, round-under}
 use Rattle.speeds.specs.Speeds.{plain, UpTo, Within, halfUp, roundAway, isSpeed, one, processAt, scaled, Near}
 use Rattle.speeds.proofs.Rounding.{half-up-bounds, away-of-value, up-to-finite}
+use Rattle.speeds.proofs.Identity.{held}
 use Rattle.speeds.proofs.Bounds.{within-positive, speed-within, num-pos, div-at, div-up-to, whole-value}
 
 -- g is within u / 2 of n
@@ -126,14 +127,6 @@ round-off a c C h k =
 pow-lt-back : (i p : ℕ) → 2 ^ i < 2 ^ p → i < p
 pow-lt-back i p h = lt-of-not-le (λ (g : p ≤ i). lt-irrefl (2 ^ i) (lt-of-lt-of-le h (pow-mono g)))
 
-digits-few : (f : Format) (s : Bool) (m : ℕ) (e : ℤ) → T (fits f (fin s (suc m) e)) → suc m < 2 ^ prec f
-unfolding fits
-digits-few f s m e t =
-    let a = eqb (suc m % 2) 1 in
-    let b = ltb (suc m) (2 ^ prec f) in
-    let c = leb (down e) (2 ^ low f) in
-    ltb→lt (suc m) (2 ^ prec f) (and-r a b (and-l (a && b) c (and-l (a && b && c) (ltb (suc m * up e) (2 ^ suc (emax f) * down e)) t)))
-
 exact-at : (m k : ℕ) → suc k ≤ 54 → m * 1 * 2 ^ 54 / 2 ^ suc k * 2 ^ suc k ≡ m * 1 * 2 ^ 54
 exact-at m k h =
     let e : m * 1 * 2 ^ 54 ≡ m * 1 * 2 ^ (54 - suc k) * 2 ^ suc k =
@@ -153,7 +146,7 @@ scaled-exact (inf t) F w = absurd (w .flat)
 scaled-exact (fin t m (pos k)) F w = mul-one (m * 2 ^ k * 2 ^ 54 / 1) ∙ div-one (m * 2 ^ k * 2 ^ 54)
 scaled-exact (fin t zero (negsuc k)) F w = absurd (lt-irrefl 0 (lt-of-lt-of-le (pow-pos (suc k)) (w .above)))
 scaled-exact (fin t (suc m) (negsuc k)) F w =
-    exact-at (suc m) k (le-of-suc-le-suc (pow-lt-back (suc k) 55 (small-exp (suc m) (2 ^ suc k) (digits-few binary64 t m (negsuc k) F) (w .above))))
+    exact-at (suc m) k (le-of-suc-le-suc (pow-lt-back (suc k) 55 (small-exp (suc m) (2 ^ suc k) (held binary64 t (suc m) (negsuc k) (zero-lt-suc m) F .few) (w .above))))
 
 -- the law
 pub eq-one : (s : Float) → T (plain s) → T (eq s one) → num s ≡ den s

@@ -16,8 +16,8 @@ use Rattle.work_ends.specs.Layout.{Rising, Before}
 use Rattle.timeline.specs.declared.ResourceTimeline.{ResourceTimeline}
 use Rattle.timeline.specs.Bookings.{Booking, bookingAt, bookingsTo, bookings, latestEnd}
 use Rattle.timeline.specs.Valid.{before}
-use Rattle.timeline.specs.Free.{overlaps, onAt, load}
-use Rattle.timeline.specs.Steps.{overlapping, Columns, From}
+use Rattle.timeline.specs.Free.{overlaps, onAt, tally}
+use Rattle.timeline.specs.Steps.{Columns, From}
 use Rattle.timeline.proofs.Rules.{Rules}
 use Rattle.timeline.proofs.Rows.{rows-step}
 use Rattle.timeline.proofs.Loading.{on, is-on}
@@ -74,11 +74,6 @@ latest-to t rs (suc n) h =
 pub latest-last : (t : ResourceTimeline) → Rules t → latestEnd (bookings t) ≡ before (t .latest) (t .len)
 latest-last t rs = latest-to t rs (t .len) (omega arith)
 
--- the units of the bookings that a test picks
-unfoldable pub tally : (Booking → Bool) → List Booking → ℕ
-tally P [] = 0
-tally P (b ∷ bs) = cond (P b) (b .units) 0 + tally P bs
-
 tally-snoc : (P : Booking → Bool) (bs : List Booking) (b : Booking) → tally P (bs ++ (b ∷ [])) ≡ tally P bs + cond (P b) (b .units) 0
 unfolding tally
 tally-snoc P [] b = omega arith
@@ -104,7 +99,7 @@ module _ (P : Booking → Bool) (ss es us : List ℕ) where
       record { is = omega (arith, t .is); most = omega (arith, t .most) }
 
   -- none of the first i
-  none-to : (i : ℕ) → ((k : ℕ) → k < i → P (bookingAt ss es us k) ≡ false) → tally P (bookingsTo ss es us i) ≡ 0
+  pub none-to : (i : ℕ) → ((k : ℕ) → k < i → P (bookingAt ss es us k) ≡ false) → tally P (bookingsTo ss es us i) ≡ 0
   unfolding tally bookingsTo
   none-to zero f = refl
   none-to (suc i) f =
@@ -131,11 +126,6 @@ module _ (P : Booking → Bool) (ss es us : List ℕ) where
       t .is ∙ sym (rw e at (rest i (n - i) (λ k a b. f k a (omega arith))))
 
 -- overlapping [s, e)
-pub tally-over : (bs : List Booking) (s e : ℕ) → tally (λ b. overlaps b s e) bs ≡ overlapping bs s e
-unfolding tally overlapping
-tally-over [] s e = refl
-tally-over (b ∷ bs) s e = rw (tally-over bs s e) refl
-
 pub over-yes : (b : Booking) (s e : ℕ) → b .start < e → s < b .end → overlaps b s e ≡ true
 unfolding overlaps
 over-yes b s e h l = simp (lt-ltb _ _ h, lt-ltb _ _ l)
@@ -149,11 +139,6 @@ unfolding overlaps
 over-ahead b s e h = no-way _ (λ t. absurd (omega (arith, ltb-true (b .start) e (and-split (ltb (b .start) e) (ltb s (b .end)) t .0))))
 
 -- on at p of [s, e)
-pub tally-load : (bs : List Booking) (s e p : ℕ) → tally (λ b. onAt b s e p) bs ≡ load bs s e p
-unfolding tally load
-tally-load [] s e p = refl
-tally-load (b ∷ bs) s e p = rw (tally-load bs s e p) refl
-
 pub on-past : (b : Booking) (s e p : ℕ) → s ≤ p → b .end ≤ p → onAt b s e p ≡ false
 on-past b s e p g h = no-way _ (λ t. absurd (omega (arith, on b s e p t .to)))
 

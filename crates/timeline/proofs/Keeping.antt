@@ -15,7 +15,7 @@ use Rattle.timeline.specs.Bookings.{Booking, bookingsTo, bookings, total
 use Rattle.timeline.specs.Valid.{before, valid}
 use Rattle.timeline.specs.Diary.{insertBooking, cells, latestEnds, diary}
 use Rattle.timeline.proofs.Rules.{CellFacts, rules, ruled}
-use Rattle.timeline.proofs.Rows.{none, count, booking-at, pad-at, latest-length}
+use Rattle.timeline.proofs.Rows.{none, count, booking-at, pad-at, latest-length, Long, canon, Put, put-made, bookings-are}
 
 -- a booking in range that starts at ps or later
 pub record InRange (ps : ℕ) (b : Booking) : Type 0 where
@@ -162,3 +162,11 @@ pub booked-keeps : (t : ResourceTimeline) (b : Booking) → valid t ≡ true →
 booked-keeps t b v l r =
     let k = rules t v in
     diary-keeps (t .capacity) (t .calendar) (insertBooking b (bookings t)) (k .calendar) (k .some) (k .few) (omega (arith, length-inserted b (bookings t), count t)) (insert-order 0 b (bookings t) r (bookings-order t v))
+
+-- a diary with one booking put in is the one of its bookings, and keeps the rules
+pub put-is : (t r : ResourceTimeline) (s e u at : ℕ) → Put t r s e u at → Long r → valid t ≡ true → t .len < 64 → InRange 0 (record { start = s; end = e; units = u })
+    → (r ≡ diary (t .capacity) (t .calendar) (insertBooking (record { start = s; end = e; units = u }) (bookings t))) × (valid r ≡ true)
+put-is t r s e u at p g v l k =
+    let q : r ≡ diary (t .capacity) (t .calendar) (insertBooking (record { start = s; end = e; units = u }) (bookings t)) =
+    canon r g (put-made t r s e u at p (rules t v) l) ∙ rw (bookings-are t r s e u at p, p .capacity, p .calendar) refl in
+    (q, ap valid q ∙ booked-keeps t _ v l k)

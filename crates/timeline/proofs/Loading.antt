@@ -11,7 +11,7 @@ use borrow.Author.Tests.{leb-true, ltb-true, le-leb, lt-ltb}
 use Rattle.calendar.specs.Basics.{and-split, no-way, not-both, lt-or-ge}
 use Rattle.calendar.specs.Every.{from-at, from-all}
 use Rattle.timeline.specs.Bookings.{Booking}
-use Rattle.timeline.specs.Free.{overlaps, onAt, load, roomAt, free}
+use Rattle.timeline.specs.Free.{overlaps, onAt, tally, load, roomAt, free}
 use Rattle.timeline.specs.Steps.{overlapping}
 use Rattle.timeline.proofs.Rows.{none}
 
@@ -38,27 +38,17 @@ cond-le : (x y : Bool) (u : ℕ) → (x ≡ true → y ≡ true) → cond x u 0 
 cond-le true y u f = rw (f refl) (omega arith)
 cond-le false y u f = omega arith
 
--- a load is at most another whose bookings are all on
+-- a test that picks all that another picks
+tally-le : (P Q : Booking → Bool) (bs : List Booking) → ((k : ℕ) → k < length bs → P (getD bs k none) ≡ true → Q (getD bs k none) ≡ true) → tally P bs ≤ tally Q bs
+unfolding tally
+tally-le P Q [] f = omega arith
+tally-le P Q (b ∷ bs) f = omega (arith, cond-le (P b) (Q b) (b .units) (f 0 (omega arith)), tally-le P Q bs (λ k l. f (suc k) (omega arith)))
+
 pub load-le : (bs : List Booking) (s e p s′ e′ q : ℕ)
     → ((k : ℕ) → k < length bs → On (getD bs k none .start) (getD bs k none .end) s e p → On (getD bs k none .start) (getD bs k none .end) s′ e′ q)
     → load bs s e p ≤ load bs s′ e′ q
 unfolding load
-load-le [] s e p s′ e′ q f = omega arith
-load-le (b ∷ bs) s e p s′ e′ q f =
-    omega (
-      arith,
-      cond-le (onAt b s e p) (onAt b s′ e′ q) (b .units) (λ h. is-on b s′ e′ q (f 0 (omega arith) (on b s e p h))),
-      load-le bs s e p s′ e′ q (λ k l. f (suc k) (omega arith)),
-    )
-
--- no load is above the units of all overlapping bookings
-pub load-over : (bs : List Booking) (s e p : ℕ) → load bs s e p ≤ overlapping bs s e
-unfolding load overlapping overlaps
-load-over [] s e p = omega arith
-load-over (b ∷ bs) s e p = omega (arith, cond-le (onAt b s e p) (overlaps b s e) (b .units) on-over, load-over bs s e p)
-  where
-    on-over : onAt b s e p ≡ true → overlaps b s e ≡ true
-    on-over h = simp (lt-ltb _ _ (on b s e p h .starts), lt-ltb _ _ (on b s e p h .ends))
+load-le bs s e p s′ e′ q f = tally-le (λ b. onAt b s e p) (λ b. onAt b s′ e′ q) bs (λ k l h. is-on (getD bs k none) s′ e′ q (f k l (on (getD bs k none) s e p h)))
 
 -- the latest booking start up to p, and s where there is none after it
 lastStart : List Booking → ℕ → ℕ → ℕ
@@ -114,12 +104,12 @@ last-is P (b ∷ bs) s p h f = go (leb (b .start) p) refl (last-is P bs s p h (�
     go false e x y = x
 
 -- at s, and at every instant of the span
-abbrev pub Within : ℕ → ℕ → ℕ → Type 0
-Within s e p = (p ≡ s) ⊎ ((s ≤ p) × (p < e))
+abbrev pub During : ℕ → ℕ → ℕ → Type 0
+During s e p = (p ≡ s) ⊎ ((s ≤ p) × (p < e))
 
 pub record Free (cap : ℕ) (bs : List Booking) (u s e : ℕ) : Type 0 where
   pub few : u ≤ cap
-  pub fits : (p : ℕ) → Within s e p → load bs s e p + u ≤ cap
+  pub fits : (p : ℕ) → During s e p → load bs s e p + u ≤ cap
 
 -- the load leaves room at every instant if it does at s and at the booking starts inside the span
 pub every-instant : (cap : ℕ) (bs : List Booking) (u s e : ℕ) → u ≤ cap → load bs s e s + u ≤ cap
@@ -158,7 +148,7 @@ free-facts cap bs u s e h =
     }
 
 -- one instant at which the units do not fit
-pub free-no : (cap : ℕ) (bs : List Booking) (u s e p : ℕ) → Within s e p → cap < load bs s e p + u → free cap bs u s e ≡ false
+pub free-no : (cap : ℕ) (bs : List Booking) (u s e p : ℕ) → During s e p → cap < load bs s e p + u → free cap bs u s e ≡ false
 free-no cap bs u s e p w h = no-way _ (λ t. let x = free-facts cap bs u s e t .fits p w in absurd (omega arith))
 
 pub free-few : (cap : ℕ) (bs : List Booking) (u s e : ℕ) → cap < u → free cap bs u s e ≡ false
@@ -174,4 +164,10 @@ free-room cap bs u s e room q = go (free cap bs u s e) refl
 
 -- few enough overlap at all
 pub free-over : (cap : ℕ) (bs : List Booking) (u s e room : ℕ) → u + room ≡ cap → overlapping bs s e ≤ room → free cap bs u s e ≡ true
-free-over cap bs u s e room q h = free-yes cap bs u s e (record { few = omega arith; fits = λ p w. omega (arith, load-over bs s e p) })
+unfolding load overlapping onAt
+free-over cap bs u s e room q h =
+    free-yes cap bs u s e
+    (record {
+      few = omega arith;
+      fits = λ p w. omega (arith, tally-le (λ b. onAt b s e p) (λ b. overlaps b s e) bs (λ k l t. and-split (overlaps (getD bs k none) s e) _ t .0));
+    })

@@ -1,11 +1,10 @@
 -- What the definitions of a diary amount to: the least start without any bound, work without a calendar, and extra bookings.
 use mathlib.Core.Path.{_≡_, refl, ap, _∙_, fun-ext}
-use mathlib.Core.Bool.{Bool, true, false, _&&_, cond}
+use mathlib.Core.Bool.{Bool, true, false, cond}
 use mathlib.Core.List.{List, [], _∷_}
 use mathlib.Core.Logic.{inl}
 use Prim.Native.Nat.{ℕ, suc, _+_, _-_, _≤_, _<_, max}
 use native.Mathlib.Omega.{arith}
-use lib.Dec.{eqb}
 use borrow.Author.Tests.{eqb-true, eq-eqb}
 use Rattle.calendar.specs.declared.Calendar.{Calendar}
 use Rattle.calendar.specs.Basics.{and-split, no-way, not-both}
@@ -15,9 +14,9 @@ use Rattle.calendar.specs.Work.{joint, workEnd, lastChange, jointEnd}
 use Rattle.calendar.specs.Meaning.{least-found, fits-is, working-is}
 use Rattle.calendar.proofs.Running.{run-done}
 use Rattle.timeline.specs.declared.ResourceTimeline.{ResourceTimeline}
-use Rattle.timeline.specs.Bookings.{Booking, latestEnd}
+use Rattle.timeline.specs.Bookings.{Booking, latestEnd, same, times, Within}
 use Rattle.timeline.specs.Valid.{valid}
-use Rattle.timeline.specs.Free.{onAt, load, free}
+use Rattle.timeline.specs.Free.{onAt, tally, load, free}
 use Rattle.timeline.specs.Earliest.{fitsAt, freeTo, startsAt, lastEvent, earliestFit, earliestResumable}
 use Rattle.timeline.proofs.Rules.{rules}
 use Rattle.timeline.proofs.Loading.{free-facts, free-yes}
@@ -69,9 +68,6 @@ unfolding earliestResumable earliestFit
 no-calendar t from work u a b = ap (λ (P : ℕ → Bool). leastFrom P from (suc (lastEvent t - from))) (fun-ext (λ s. starts-fits t work u s a b))
 
 -- bookings counted with repeats
-pub same : Booking → Booking → Bool
-same a b = eqb (a .start) (b .start) && (eqb (a .end) (b .end) && eqb (a .units) (b .units))
-
 same-is : (a b : Booking) → same a b ≡ true → a ≡ b
 unfolding same
 same-is a b h =
@@ -81,11 +77,6 @@ same-is a b h =
     let y : a .end ≡ b .end = eqb-true _ _ (v .0) in
     let z : a .units ≡ b .units = eqb-true _ _ (v .1) in
     λ i. record { start = x i; end = y i; units = z i }
-
--- how often b is among the bookings
-unfoldable pub times : Booking → List Booking → ℕ
-times b [] = 0
-times b (x ∷ xs) = cond (same b x) 1 0 + times b xs
 
 remove : Booking → List Booking → List Booking
 remove b [] = []
@@ -102,7 +93,7 @@ times-remove b c (x ∷ xs) = go (same b x) refl (times-remove b c xs)
     go false e h = omega arith
 
 load-remove : (b : Booking) (xs : List Booking) (s e p : ℕ) → 1 ≤ times b xs → load xs s e p ≡ cond (onAt b s e p) (b .units) 0 + load (remove b xs) s e p
-unfolding times remove load
+unfolding times remove load tally
 load-remove b [] s e p h = absurd (omega arith)
 load-remove b (x ∷ xs) s e p h = go (same b x) refl (load-remove b xs s e p) h
   where
@@ -116,12 +107,8 @@ same-self : (b : Booking) → same b b ≡ true
 unfolding same
 same-self b = simp (eq-eqb (b .start) (b .start) refl, eq-eqb (b .end) (b .end) refl, eq-eqb (b .units) (b .units) refl)
 
--- the second list holds each booking of the first, counted with repeats
-abbrev pub Within : List Booking → List Booking → Type 0
-Within bs cs = (b : Booking) → times b bs ≤ times b cs
-
 pub load-more : (bs cs : List Booking) (s e p : ℕ) → Within bs cs → load bs s e p ≤ load cs s e p
-unfolding load times
+unfolding load tally times
 load-more [] cs s e p f = omega arith
 load-more (b ∷ bs) cs s e p f =
     let one : 1 ≤ times b cs = omega (arith, rw (same-self b) at (f b)) in

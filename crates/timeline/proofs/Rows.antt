@@ -1,6 +1,5 @@
--- The list of bookings against the columns of a diary; a booking put in; a diary that keeps the rules is the one that its bookings make.
+-- The list of bookings against the columns of a diary; a booking put in; a diary is the one that its bookings make.
 use mathlib.Core.Path.{_≡_, refl, sym, ap, _∙_}
-use mathlib.Core.Bool.{true}
 use mathlib.Core.List.{List, [], _∷_, _++_, map}
 use mathlib.Core.Logic.{_⊎_, ⊎-elim}
 use Prim.Native.Nat.{ℕ, zero, suc, _+_, _-_, _*_, _^_, _≤_, _<_, max}
@@ -14,12 +13,11 @@ use Rattle.calendar.specs.declared.Calendar.{Calendar}
 use Rattle.calendar.specs.Basics.{lt-or-ge}
 use Rattle.timeline.specs.declared.ResourceTimeline.{ResourceTimeline}
 use Rattle.timeline.specs.Bookings.{Booking, bookingAt, bookingsTo, bookings, total}
-use Rattle.timeline.specs.Valid.{before, valid}
+use Rattle.timeline.specs.Valid.{before}
 use Rattle.timeline.specs.Diary.{insertBooking, cells, latestEnds, diary}
 use Rattle.work_ends.specs.Layout.{Before}
 use Rattle.columns.specs.Steps.{Opened, Latest}
-use Rattle.timeline.proofs.Rules.{Rules, CellOf, ruled}
-use Rattle.columns.proofs.Shift.{before-pos}
+use Rattle.timeline.proofs.Rules.{Rules, EmptyOf}
 
 abbrev pub none : Booking
 none = record { start = 0; end = 0; units = 0 }
@@ -110,6 +108,13 @@ total-put zero b bs = omega arith
 total-put (suc at) b [] = omega arith
 total-put (suc at) b (x ∷ xs) = rw (total-put at b xs) (omega arith)
 
+-- what makes a diary the one of its bookings
+pub record Made (t : ResourceTimeline) : Type 0 where
+  pub room : t .len ≤ 64
+  pub latest : (i : ℕ) → i < t .len → getD (t .latest) i 0 ≡ max (before (t .latest) i) (getD (t .ends) i 0)
+  pub empty : (i : ℕ) → t .len ≤ i → i < 64 → EmptyOf t i
+  pub sum : t .booked ≡ total (bookings t)
+
 -- what the code makes of a diary t for a booking of u units from s to e, at index at
 pub record Put (t r : ResourceTimeline) (s e u at : ℕ) : Type 0 where
   pub capacity : r .capacity ≡ t .capacity
@@ -182,85 +187,30 @@ module _ (t r : ResourceTimeline) (s e u at : ℕ) (p : Put t r s e u at) where
   before-low xs ys f zero h = refl
   before-low xs ys f (suc k) h = f k (omega arith)
 
-  module _ (rs : Rules t) (order : s < e) (range : e ≤ 2 ^ 42) (some : 1 ≤ u) (few : u ≤ 10000) (room : t .len < 64) where
-    cell-low : (i : ℕ) → i < at → CellOf r i
-    cell-low i h =
-        let f = rs .filled i (omega (arith, p .place .few)) in
-        let a = p .starts .low i h in
-        let b′ = p .ends .low i h in
-        let c′ = p .units .low i h in
-        let d = p .latest .low i h in
-        let x = before-low (t .starts) (r .starts) (p .starts .low) i (omega arith) in
-        let y = before-low (t .latest) (r .latest) (p .latest .low) i (omega arith) in
-        rw (a, b′, c′, d, x, y) f
+  latest-put : Rules t → (i : ℕ) → i < r .len → getD (r .latest) i 0 ≡ max (before (r .latest) i) (getD (r .ends) i 0)
+  latest-put rs i h =
+      ⊎-elim
+      (λ (l : i < at).
+      rw (p .latest .low i l, p .ends .low i l, before-low (t .latest) (r .latest) (p .latest .low) i (omega arith))
+      (rs .filled i (omega (arith, p .place .few)) .latest))
+      (λ (l : at ≤ i). p .latest .run i l (omega (arith, p .len)))
+      (lt-or-ge i at)
 
-    prev-below : before (r .starts) at ≤ s
-    unfolding before
-    prev-below = rw (before-low (t .starts) (r .starts) (p .starts .low) at (omega arith)) (go at behind)
-      where
-        go : (j : ℕ) → ((k : ℕ) → k < j → getD (t .starts) k 0 ≤ s) → before (t .starts) j ≤ s
-        go zero f = omega arith
-        go (suc j) f = f j (omega arith)
-
-    cell-here : CellOf r at
-    cell-here = record {
-      order = omega (arith, p .starts .here, p .ends .here, order);
-      range = omega (arith, p .ends .here, range);
-      some = omega (arith, p .units .here, some);
-      few = omega (arith, p .units .here, few);
-      sorted = omega (arith, p .starts .here, prev-below);
-      latest = p .latest .run at (omega arith) (omega (arith, p .place .few));
-    }
-
-    -- the start after a moved one
-    next-above : (i : ℕ) → at ≤ i → i < t .len → getD (r .starts) i 0 ≤ getD (t .starts) i 0
-    next-above i h l =
-        ⊎-elim
-        (λ (q : at ≡ i). rw (← q) (omega (arith, p .starts .here, ahead (omega arith))))
-        (λ (g : at < i). omega (arith, p .starts .high i g (omega arith), rs .filled i l .sorted, before-pos (t .starts) i (omega arith)))
-        (eq-or-lt-of-le h)
-
-    cell-high : (i : ℕ) → at ≤ i → i < t .len → CellOf r (suc i)
-    unfolding before
-    cell-high i h l =
-        let f = rs .filled i l in
-        let w = row-high i h l in
-        let x : getD (r .starts) (suc i) 0 ≡ getD (t .starts) i 0 = ap (λ (q : Booking). q .start) w in
-        let y : getD (r .ends) (suc i) 0 ≡ getD (t .ends) i 0 = ap (λ (q : Booking). q .end) w in
-        let z : getD (r .units) (suc i) 0 ≡ getD (t .units) i 0 = ap (λ (q : Booking). q .units) w in
+  pub put-made : Rules t → t .len < 64 → Made r
+  put-made rs l = record {
+    room = omega (arith, p .len);
+    latest = latest-put rs;
+    empty = λ i h m.
+        let f = rs .empty i (omega (arith, p .len)) m in
+        let g : t .len < i = omega (arith, p .len) in
         record {
-          order = omega (arith, f .order);
-          range = omega (arith, f .range);
-          some = omega (arith, f .some);
-          few = omega (arith, f .few);
-          sorted = omega (arith, next-above i h l);
-          latest = p .latest .run (suc i) (omega arith) (omega arith);
-        }
-
-    pub put-rules : Rules r
-    put-rules = record {
-      calendar = rw (p .calendar) (rs .calendar);
-      some = rw (p .capacity) (rs .some);
-      few = rw (p .capacity) (rs .few);
-      room = omega (arith, p .len);
-      filled = λ i h.
-          by-order i at (cell-low i) (λ q. rw q cell-here)
-          (λ l.
-          let q : i ≡ suc (i - 1) = omega arith in
-          rw q (cell-high (i - 1) (omega arith) (omega (arith, p .len))));
-      empty = λ i h l.
-          let f = rs .empty i (omega (arith, p .len)) l in
-          let g : t .len < i = omega (arith, p .len) in
-          record {
-            starts0 = p .starts .rest i g ∙ f .starts0;
-            ends0 = p .ends .rest i g ∙ f .ends0;
-            units0 = p .units .rest i g ∙ f .units0;
-            latest0 = p .latest .rest i (omega arith) ∙ f .latest0;
-          };
-      sum = p .booked ∙ rw (rs .sum) (sym (ap total bookings-put ∙ total-put at b (bookings t)));
-    }
-
--- a diary that keeps the rules is the one that its bookings make
+          starts0 = p .starts .rest i g ∙ f .starts0;
+          ends0 = p .ends .rest i g ∙ f .ends0;
+          units0 = p .units .rest i g ∙ f .units0;
+          latest0 = p .latest .rest i (omega arith) ∙ f .latest0;
+        };
+    sum = p .booked ∙ rw (rs .sum) (sym (ap total bookings-put ∙ total-put at b (bookings t)));
+  }
 
 pad-zero : (n k : ℕ) → getD {A = ℕ} (replicate n 0) k 0 ≡ 0
 pad-zero zero k = refl
@@ -311,19 +261,20 @@ pub record Long (t : ResourceTimeline) : Type 0 where
   pub units : length (t .units) ≡ 64
   pub latest : length (t .latest) ≡ 64
 
-latest-is : (t : ResourceTimeline) → Rules t → (k : ℕ) → k < t .len → getD (t .latest) k 0 ≡ getD (latestEnds 0 (bookings t)) k 0
+latest-is : (t : ResourceTimeline) → Made t → (k : ℕ) → k < t .len → getD (t .latest) k 0 ≡ getD (latestEnds 0 (bookings t)) k 0
 unfolding before
-latest-is t rs zero h =
-    rs .filled 0 h .latest ∙ sym (latest-first 0 (bookings t) (rw (count t) h) ∙ rw (booking-at t 0 h) refl)
-latest-is t rs (suc k) h =
-    rs .filled (suc k) h .latest
+latest-is t m zero h =
+    m .latest 0 h ∙ sym (latest-first 0 (bookings t) (rw (count t) h) ∙ rw (booking-at t 0 h) refl)
+latest-is t m (suc k) h =
+    m .latest (suc k) h
     ∙ sym
     (latest-next 0 (bookings t) k (rw (count t) h)
-    ∙ rw (booking-at t (suc k) h, ← latest-is t rs k (omega arith)) refl)
+    ∙ rw (booking-at t (suc k) h, ← latest-is t m k (omega arith)) refl)
 
-pub canon : (t : ResourceTimeline) → Long t → Rules t → t ≡ diary (t .capacity) (t .calendar) (bookings t)
+-- such a diary is the one that its bookings make
+pub canon : (t : ResourceTimeline) → Long t → Made t → t ≡ diary (t .capacity) (t .calendar) (bookings t)
 unfolding diary
-canon t g rs = λ i. record {
+canon t g m = λ i. record {
   capacity = t .capacity;
   calendar = t .calendar;
   starts = a i;
@@ -331,7 +282,7 @@ canon t g rs = λ i. record {
   units = c′ i;
   latest = d i;
   len = sym (count t) i;
-  booked = rs .sum i;
+  booked = m .sum i;
 }
   where
     field-at : (f : Booking → ℕ) (k : ℕ) → k < t .len → getD (map f (bookings t)) k (f none) ≡ f (rowAt t k)
@@ -339,27 +290,27 @@ canon t g rs = λ i. record {
 
     a : t .starts ≡ cells (map (λ q. q .start) (bookings t))
     a =
-        column (t .starts) (map (λ q. q .start) (bookings t)) (t .len) (g .starts) (rs .room) (length-map (bookings t) (λ q. q .start) ∙ count t)
+        column (t .starts) (map (λ q. q .start) (bookings t)) (t .len) (g .starts) (m .room) (length-map (bookings t) (λ q. q .start) ∙ count t)
         (λ k h. sym (field-at (λ q. q .start) k h))
-        (λ k h l. rs .empty k h l .starts0)
+        (λ k h l. m .empty k h l .starts0)
 
     b′ : t .ends ≡ cells (map (λ q. q .end) (bookings t))
     b′ =
-        column (t .ends) (map (λ q. q .end) (bookings t)) (t .len) (g .ends) (rs .room) (length-map (bookings t) (λ q. q .end) ∙ count t)
+        column (t .ends) (map (λ q. q .end) (bookings t)) (t .len) (g .ends) (m .room) (length-map (bookings t) (λ q. q .end) ∙ count t)
         (λ k h. sym (field-at (λ q. q .end) k h))
-        (λ k h l. rs .empty k h l .ends0)
+        (λ k h l. m .empty k h l .ends0)
 
     c′ : t .units ≡ cells (map (λ q. q .units) (bookings t))
     c′ =
-        column (t .units) (map (λ q. q .units) (bookings t)) (t .len) (g .units) (rs .room) (length-map (bookings t) (λ q. q .units) ∙ count t)
+        column (t .units) (map (λ q. q .units) (bookings t)) (t .len) (g .units) (m .room) (length-map (bookings t) (λ q. q .units) ∙ count t)
         (λ k h. sym (field-at (λ q. q .units) k h))
-        (λ k h l. rs .empty k h l .units0)
+        (λ k h l. m .empty k h l .units0)
 
     d : t .latest ≡ cells (latestEnds 0 (bookings t))
     d =
-        column (t .latest) (latestEnds 0 (bookings t)) (t .len) (g .latest) (rs .room) (latest-length 0 (bookings t) ∙ count t)
-        (latest-is t rs)
-        (λ k h l. rs .empty k h l .latest0)
+        column (t .latest) (latestEnds 0 (bookings t)) (t .len) (g .latest) (m .room) (latest-length 0 (bookings t) ∙ count t)
+        (latest-is t m)
+        (λ k h l. m .empty k h l .latest0)
 
 -- the booked total is small
 pub total-le : (t : ResourceTimeline) → Rules t → (n : ℕ) → n ≤ t .len → total (bookingsTo (t .starts) (t .ends) (t .units) n) ≤ n * 43980465111040000
@@ -369,12 +320,6 @@ total-le t rs (suc n) h =
     let f = rs .filled n h in
     rw (total-snoc (bookingsTo (t .starts) (t .ends) (t .units) n) (rowAt t n))
     (omega (arith, total-le t rs n (omega arith), weight-le (getD (t .starts) n 0) (getD (t .ends) n 0) (getD (t .units) n 0) (f .range) (f .few)))
-
-pub put-is : (t r : ResourceTimeline) (s e u at : ℕ) → Put t r s e u at → Long r → Rules t → (s < e) × (e ≤ 2 ^ 42) × (1 ≤ u) × (u ≤ 10000) → t .len < 64
-    → (r ≡ diary (t .capacity) (t .calendar) (insertBooking (record { start = s; end = e; units = u }) (bookings t))) × (valid r ≡ true)
-put-is t r s e u at p g rs h l =
-    let q = put-rules t r s e u at p rs (h .0) (h .1) (h .2) (h .3) l in
-    (canon r g q ∙ rw (bookings-are t r s e u at p, p .capacity, p .calendar) refl, ruled r q)
 
 abbrev zeros : List ℕ
 zeros = replicate 64 0

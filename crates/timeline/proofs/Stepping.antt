@@ -11,6 +11,7 @@ use Rattle.calendar.specs.declared.TimeWindows.{TimeWindows}
 use Rattle.calendar.specs.declared.Calendar.{Calendar}
 use Rattle.calendar.specs.Basics.{and-split, and-join, and-true, not-both}
 use Rattle.calendar.specs.Search.{Found, nothing, at, greatestOf}
+use Rattle.calendar.specs.Every.{every}
 use Rattle.calendar.specs.Spans.{Span, spanAt, spans}
 use Rattle.calendar.specs.Spanning.{spans-long, span-at}
 use Rattle.calendar.specs.Valid as calendar
@@ -75,7 +76,7 @@ fits-at-back t span u x s h =
     and-join _ _ (fits-back (t .calendar) x span (s .quiet) (w .0)) (free-on-back t u x (x + span) (suc x + span) s (omega arith) (w .1))
 
 pub joint-one : (c : Calendar) (p : ℕ) → joint (c ∷ []) p ≡ working c p
-unfolding joint
+unfolding joint every
 joint-one c p = and-true (working c p)
 
 pub starts-at-back : (t : ResourceTimeline) (work u x : ℕ) → Still t (suc x) → startsAt t work u (suc x) ≡ true → startsAt t work u x ≡ true

@@ -14,10 +14,14 @@ overlaps b s e = ltb (b .start) e && ltb s (b .end)
 unfoldable pub onAt : Booking → ℕ → ℕ → ℕ → Bool
 onAt b s e p = overlaps b s e && (leb (b .start) p && ltb p (b .end))
 
+-- the units of the bookings that a test picks
+unfoldable pub tally : (Booking → Bool) → List Booking → ℕ
+tally P [] = 0
+tally P (b ∷ bs) = cond (P b) (b .units) 0 + tally P bs
+
 -- the load at instant p: the units of overlapping bookings with start ≤ p < end
 unfoldable pub load : List Booking → ℕ → ℕ → ℕ → ℕ
-load [] s e p = 0
-load (b ∷ bs) s e p = cond (onAt b s e p) (b .units) 0 + load bs s e p
+load bs s e p = tally (λ b. onAt b s e p) bs
 
 -- u more stay within the capacity at instant p
 abbrev pub roomAt : ℕ → List Booking → ℕ → ℕ → ℕ → ℕ → Bool

@@ -112,7 +112,7 @@ fn empty(t: ResourceTimeline) -> bool
     true
 }
 
-// Both.
+// All 64 cells keep the rules, and the booked total is theirs.
 fn cells_right(t: ResourceTimeline) -> bool
     requires { ⌜ t .len ≤ 64 ⌝ }
     ensures { λ r. ⌜ r ≡ cellsRight t ⌝ }

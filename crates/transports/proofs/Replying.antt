@@ -1,11 +1,10 @@
 -- The replies of a transport's entry, over plain values: each refusal in its order, and what an accepted one says.
-use borrow.Author.Tests.{ltb-false, lt-ltb, le-ltb}
-use mathlib.Core.Bool.{Bool, true, false, not, cond, _&&_}
+use borrow.Author.Tests.{not-false, ltb-false, lt-ltb, le-ltb}
+use mathlib.Core.Bool.{true, false, not, _&&_}
 use mathlib.Core.Path.{_≡_, refl}
 use Prim.Native.Nat.{ℕ, _^_, _≤_, _<_}
-use native.Mathlib.Omega.{arith}
 use lib.Dec.{ltb}
-use Rattle.calendar.specs.Basics.{and-false}
+use Rattle.calendar.specs.Basics.{and-split, and-false, unrefused}
 use Rattle.board.specs.Enter.{transportRefusal}
 use Rattle.board.specs.Resources.{onBoard}
 use Rattle.board.specs.Valid.{valid}
@@ -35,19 +34,15 @@ module _ (b : Board) (from to ms : ℕ) where
   transport-0 v e f l = rw (v, e, f, le-ltb (2 ^ 36) ms l) refl
 
 -- a transport that is taken
-passed : (v o p m : Bool) → _≡_ {A = ℕ} (cond (not v) 15 (cond (not (o && p)) 5 (cond m 1 0))) 0 → (v ≡ true) × (o ≡ true) × (p ≡ true) × (m ≡ false)
-passed true true true false e = (refl, refl, refl, refl)
-passed true true true true e = absurd (omega arith)
-passed true true false m e = absurd (omega arith)
-passed true false p m e = absurd (omega arith)
-passed false o p m e = absurd (omega arith)
-
 pub transport-taken : (b : Board) (from to ms : ℕ) → transportRefusal b from to ms ≡ 0
     → (valid b ≡ true) × (onBoard b from ≡ true) × (onBoard b to ≡ true) × (ms ≤ 2 ^ 36)
 unfolding transportRefusal
 transport-taken b from to ms e =
-    let f = passed (valid b) (onBoard b from) (onBoard b to) (ltb (2 ^ 36) ms) e in
-    (f .0, f .1, f .2, ltb-false (2 ^ 36) ms (f .3))
+    let x0 = unrefused (not (valid b)) 14 _ e in
+    let x1 = unrefused (not (onBoard b from && onBoard b to)) 4 _ (x0 .1) in
+    let x2 = unrefused (ltb (2 ^ 36) ms) 0 0 (x1 .1) in
+    let f = and-split (onBoard b from) (onBoard b to) (not-false _ (x1 .0)) in
+    (not-false _ (x0 .0), f .0, f .1, ltb-false (2 ^ 36) ms (x2 .0))
 
 pub transport-places : (b : Board) (from to ms : ℕ) → transportRefusal b from to ms ≡ 0 → (from ≤ 15) × (to ≤ 15)
 transport-places b from to ms e =

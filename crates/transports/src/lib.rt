@@ -1,4 +1,4 @@
-// The entry of a transport between two resources of a board (models/constraint.rs; 01, 'Board entries').
+// The entry of a transport between two resources of a board (models/resource.rs; 01, 'Board entries').
 use board::Board;
 use board::Entered;
 use calendar::limits::LONGEST_DURATION;

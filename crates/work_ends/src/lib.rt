@@ -1,5 +1,5 @@
 // The end of work over working time that is laid out as the rising instants at which it begins and ends (JointTime::work_end in
-// models/calendar.rs; 01, the paragraph on calendars).
+// models/calendar.rs; 01, 'Calendar'), and the search by halves in rising instants.
 ghost use mathlib.Core.Path.{_≡_};
 ghost use Prim.Native.Nat.{_^_, _≤_, _<_};
 ghost use lib.ListN.{length};

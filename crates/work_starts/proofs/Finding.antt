@@ -1,10 +1,10 @@
 -- The searches of a diary: what they keep, and their ends.
 use mathlib.Core.Path.{_≡_, refl, sym, _∙_}
-use mathlib.Core.Bool.{Bool, true, false, _||_, cond}
+use mathlib.Core.Bool.{true, false, _||_}
 use mathlib.Core.List.{[], _∷_}
 use Prim.Native.Nat.{ℕ, suc, _+_, _-_, _^_, _≤_, _<_}
 use native.Mathlib.Omega.{arith}
-use Rattle.calendar.specs.Basics.{and-false}
+use Rattle.calendar.specs.Basics.{and-false, or-left, or-right, unrefused}
 use Rattle.calendar.specs.Search.{Found, nothing, at}
 use Rattle.calendar.specs.Fits.{fits}
 use Rattle.calendar.specs.Work.{jointEnd}
@@ -95,16 +95,14 @@ pub record Asked (from span u : ℕ) : Type 0 where
 
 pub lawful : (from span u : ℕ) → askRefusal from span u ≡ 0 → Asked from span u
 unfolding askRefusal
-lawful from span u = instants (ltb (2 ^ 43) from) (ltb (2 ^ 53) span) refl refl
-  where
-    units : (b d : Bool) → ltb u 1 ≡ b → from ≤ 2 ^ 43 → span ≤ 2 ^ 53 → _≡_ {A = ℕ} (cond (b || d) 3 0) 0 → Asked from span u
-    units true d e x y z = absurd (omega arith)
-    units false d e x y z = record { from-range = x; span-range = y; some = ltb-false u 1 e }
-
-    instants : (b d : Bool) → ltb (2 ^ 43) from ≡ b → ltb (2 ^ 53) span ≡ d → _≡_ {A = ℕ} (cond (b || d) 1 (cond (ltb u 1 || ltb 10000 u) 3 0)) 0 → Asked from span u
-    instants true d e f z = absurd (omega arith)
-    instants false true e f z = absurd (omega arith)
-    instants false false e f z = units (ltb u 1) (ltb 10000 u) refl (ltb-false (2 ^ 43) from e) (ltb-false (2 ^ 53) span f) z
+lawful from span u z =
+    let x = unrefused (ltb (2 ^ 43) from || ltb (2 ^ 53) span) 0 _ z in
+    let y = unrefused (ltb u 1 || ltb 10000 u) 2 0 (x .1) in
+    record {
+      from-range = ltb-false (2 ^ 43) from (or-left (ltb (2 ^ 43) from) (ltb (2 ^ 53) span) (x .0));
+      span-range = ltb-false (2 ^ 53) span (or-right (ltb (2 ^ 43) from) (ltb (2 ^ 53) span) (x .0));
+      some = ltb-false u 1 (or-left (ltb u 1) (ltb 10000 u) (y .0));
+    }
 
 pub unbroken-at : (span s : ℕ) (f : Found) → f ≡ at s → fit s (s + span) ≡ unbroken span f
 unfolding unbroken

@@ -13,7 +13,7 @@ use Rattle.calendar.specs.Fits.{fits}
 use Rattle.calendar.specs.Work.{working, workEnd, jointEnd}
 use Rattle.calendar.proofs.Rules.{windows-right, blocks-right, filled}
 use Rattle.work_ends.specs.Layout.{laid, lastCell, Layout}
-use Rattle.joint.proofs.Ending.{layout-end-one}
+use Rattle.joint.proofs.Ending.{layout-end}
 use Rattle.timeline.specs.declared.ResourceTimeline.{ResourceTimeline}
 use Rattle.timeline.specs.Bookings.{Booking, bookings}
 use Rattle.timeline.specs.Valid.{valid}
@@ -26,7 +26,7 @@ use Rattle.timeline.proofs.Rules.{Rules, rules}
 use Rattle.timeline.proofs.Loading.{free-room}
 use Rattle.timeline.proofs.Searching.{Sought, sought-start, sought-on}
 use Rattle.candidates.proofs.Listing.{first-is, next-listed, next-none}
-use Rattle.timeline.proofs.Stepping.{Still, fits-at-back, starts-at-back, next-still}
+use Rattle.timeline.proofs.Stepping.{Still, fits-at-back, starts-at-back, next-still, joint-one}
 use Rattle.work_starts.proofs.Finding.{fit-found, fit-none, start-found, start-none, resumed-at, resumed-none}
 
 -- the span fits at s, where the bookings leave room
@@ -62,6 +62,9 @@ until-none bs room s f q = rw q refl
 abbrev pub endOver : List ℕ → ℕ → ℕ → ℕ → Found
 endOver edges m work s = workEnd (lastCell edges m) (laid edges m) s work
 
+end-over : (c : Calendar) (edges : List ℕ) (m work s : ℕ) → Layout (working c) edges m → endOver edges m work s ≡ jointEnd (c ∷ []) s work
+end-over c edges m work s y = layout-end (c ∷ []) (working c) edges m s work y (λ p l. sym (joint-one c p))
+
 -- room is what the capacity leaves beside u
 module _ (t : ResourceTimeline) (u room : ℕ) (q : u + room ≡ t .capacity) where
   fits-over : (span s : ℕ) → fitsOver (t .calendar) (bookings t) room span s ≡ fitsAt t span u s
@@ -75,7 +78,7 @@ module _ (t : ResourceTimeline) (u room : ℕ) (q : u + room ≡ t .capacity) wh
 
   starts-over : (edges : List ℕ) (m work s : ℕ) → Layout (working (t .calendar)) edges m → freeUntil (bookings t) room s (endOver edges m work s) ≡ startsAt t work u s
   unfolding startsAt
-  starts-over edges m work s y = rw (layout-end-one (t .calendar) edges m s work y) (free-until s (jointEnd (t .calendar ∷ []) s work))
+  starts-over edges m work s y = rw (end-over (t .calendar) edges m work s y) (free-until s (jointEnd (t .calendar ∷ []) s work))
 
 event-range : (t : ResourceTimeline) → Rules t → (y : ℕ) → Event t y → y ≤ 2 ^ 42
 event-range t r y e =
@@ -139,7 +142,7 @@ module _ (t : ResourceTimeline) (v : valid t ≡ true) (from : ℕ) (ws xs : Lis
           (start-found t v from span u (getD xs i 0)
           (passed (startsAt t span u) (λ y s g. starts-at-back t span u y s g) i l (λ k d. sym (starts-over t u room q edges m span (getD xs k 0) y) ∙ f k d))
           (sym (starts-over t u room q edges m span (getD xs i 0) y) ∙ until-end (bookings t) room (getD xs i 0) e _ true g h))
-          (sym (layout-end-one (t .calendar) edges m (getD xs i 0) span y) ∙ g)
+          (sym (end-over (t .calendar) edges m span (getD xs i 0) y) ∙ g)
 
       pub start-unlisted : ((k : ℕ) → k < n → freeUntil (bookings t) room (getD xs k 0) (endOver edges m span (getD xs k 0)) ≡ false)
           → ended 0 nothing ≡ resumed t span (earliestResumable t from span u)

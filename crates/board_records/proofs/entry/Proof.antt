@@ -2,7 +2,8 @@
 use borrow.Author.Needs.{needs}
 use native.Mathlib.Omega.{arith}
 use Prim.Native.Nat.{_-_}
-use Rattle.bodies.proofs.Lengths.{is-17, is-18, nineteen-twenty, ten}
+use Rattle.bodies.specs.Bodies.{fixedLen}
+use Rattle.bodies.proofs.Lengths.{fixed-at, nineteen-twenty, ten}
 use Rattle.board_records.proofs.Bits.{back}
 use Rattle.board_records.proofs.Doing.{enters-matrix, enters-pair, enters-first, enters-transport}
 use Rattle.board_records.proofs.entry.Statement.{statement}
@@ -21,7 +22,8 @@ add-number : tie.Need-add-number
 add-number c = search needs
 
 number-requires : tie.Need-number-requires
-number-requires c κs = (omega arith, omega (arith, is-17 (c .before .before .before .before .args .kind) (omega arith), c .before .before .before .before .pre .2))
+unfolding fixedLen
+number-requires c κs = (omega arith, omega (arith, fixed-at (c .before .before .before .before .args .kind) 17 (omega arith), c .before .before .before .before .pre .2))
 
 signed-requires : tie.Need-signed-requires
 signed-requires c κs = search needs
@@ -30,7 +32,8 @@ add-number-2 : tie.Need-add-number-2
 add-number-2 c = search needs
 
 number-requires-2 : tie.Need-number-requires-2
-number-requires-2 c κs = (omega arith, omega (arith, is-17 (c .before .before .before .before .before .before .args .kind) (omega arith), c .before .before .before .before .before .before .pre .2))
+unfolding fixedLen
+number-requires-2 c κs = (omega arith, omega (arith, fixed-at (c .before .before .before .before .before .before .args .kind) 17 (omega arith), c .before .before .before .before .before .before .pre .2))
 
 signed-requires-2 : tie.Need-signed-requires-2
 signed-requires-2 c κs = search needs
@@ -45,7 +48,8 @@ add-number-3 : tie.Need-add-number-3
 add-number-3 c = search needs
 
 number-requires-3 : tie.Need-number-requires-3
-number-requires-3 c κs = (omega arith, omega (arith, is-18 (c .before .before .before .before .before .args .kind) (omega arith), c .before .before .before .before .before .pre .2))
+unfolding fixedLen
+number-requires-3 c κs = (omega arith, omega (arith, fixed-at (c .before .before .before .before .before .args .kind) 18 (omega arith), c .before .before .before .before .before .pre .2))
 
 signed-requires-3 : tie.Need-signed-requires-3
 signed-requires-3 c κs = search needs
@@ -54,7 +58,8 @@ add-set-transition : tie.Need-add-set-transition
 add-set-transition c = search needs
 
 shared-slice-read-set-transition : tie.Need-shared-slice-read-set-transition
-shared-slice-read-set-transition c = omega (arith, is-18 (c .before .before .before .before .before .before .before .before .args .kind) (omega arith), c .before .before .before .before .before .before .before .before .pre .2)
+unfolding fixedLen
+shared-slice-read-set-transition c = omega (arith, fixed-at (c .before .before .before .before .before .before .before .before .args .kind) 18 (omega arith), c .before .before .before .before .before .before .before .before .pre .2)
 
 set-transition-requires : tie.Need-set-transition-requires
 set-transition-requires c κs = search needs

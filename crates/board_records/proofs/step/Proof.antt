@@ -2,7 +2,8 @@
 use borrow.Author.Needs.{needs}
 use native.Mathlib.Omega.{arith}
 use Prim.Native.Nat.{_-_}
-use Rattle.bodies.proofs.Lengths.{is-21, from-seventeen, of-fixed, of-resource, from-one}
+use Rattle.bodies.specs.Bodies.{fixedLen}
+use Rattle.bodies.proofs.Lengths.{fixed-at, from-seventeen, of-fixed, of-resource, from-one}
 use Rattle.board_records.proofs.Doing.{steps-diary, steps-add, steps-entry, steps-order, steps-part}
 use Rattle.board_records.proofs.step.Statement.{statement}
 use Rattle.board_records.proofs.step.Tie as tie
@@ -35,7 +36,8 @@ returns-3 : tie.Need-returns-3
 returns-3 c = steps-entry _ _ _ _ _ (omega arith) (λ e. omega arith) (omega arith) (c .before .entry .ensures)
 
 new-order-requires : tie.Need-new-order-requires
-new-order-requires c κs = omega (arith, of-fixed (c .before .before .before .before .before .args .kind) (c .before .before .before .before .before .args .bytes .now) (c .before .before .before .before .before .args .at) (λ e. omega arith), is-21 (c .before .before .before .before .before .args .kind) (omega arith), c .before .before .before .before .before .pre .1)
+unfolding fixedLen
+new-order-requires c κs = omega (arith, of-fixed (c .before .before .before .before .before .args .kind) (c .before .before .before .before .before .args .bytes .now) (c .before .before .before .before .before .args .at) (λ e. omega arith), fixed-at (c .before .before .before .before .before .args .kind) 21 (omega arith), c .before .before .before .before .before .pre .1)
 
 returns-4 : tie.Need-returns-4
 returns-4 c = steps-order _ _ _ _ _ (omega arith) (c .new-order .ensures)

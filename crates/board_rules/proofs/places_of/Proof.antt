@@ -8,13 +8,14 @@ use mathlib.Core.Path.{_≡_, refl, sym, _∙_}
 use Prim.Native.Nat.{_+_, _-_, _≤_, min}
 use native.Mathlib.Omega.{arith}
 use lib.ListN.{length, replicate, length-set}
+use Rattle.calendar.specs.Basics.{filled-next}
 use Rattle.calendar.specs.Every.{everyFrom}
-use Rattle.board.specs.Resources.{numberAt}
+use Rattle.board.specs.Resources.{resourceAt, numberAt}
 use Rattle.board.specs.Valid.{cellRight, transportRight, valid}
 use Rattle.board.proofs.Facts.{resource-number, cell-past, cell-wrong, cell-twice, cell-right, valid-long, valid-start, valid-stop, valid-next, valid-end}
 use Rattle.board.proofs.Seeing.{Seen, seen-none}
 use Rattle.board.proofs.Setting.{seen-next, seen-past, seen-at, transport-same, read-all}
-use Rattle.board_rules.proofs.Lengths.{Read, few-bookings, read-next, refuted}
+use Rattle.board_rules.proofs.Lengths.{Read, few-bookings, refuted}
 use Rattle.board_rules.proofs.places_of.Statement.{statement}
 use Rattle.board_rules.proofs.places_of.Tie as tie
 
@@ -110,7 +111,7 @@ loop-again c =
     (rw (w .5) (seen-next b i (c .before .before .before .before .loop .places) s (omega arith) (omega (arith, resource-number _ e)) f), cell-right b i (omega arith) e f))
     (λ w. (rw (w .3) (seen-past b i (c .before .before .before .before .loop .places) s (omega arith)), cell-past b i (omega arith) ∙ sym (w .1 .ensures) ∙ not-false _ (w .2 .left)))
     (c .before .if2 .came) in
-    (refl, omega arith, omega arith, j .0, valid-next b i (c .before .before .before .loop-test .taken) (c .before .before .before .before .loop .inv .4) (j .1), length-set (c .before .before .before .before .loop .lens) i _ ∙ c .before .before .before .before .loop .inv .5, read-next b i (c .before .before .before .before .loop .lens) (omega (arith, c .before .before .before .before .loop .inv .5)) (c .before .before .before .before .loop .inv .6))
+    (refl, omega arith, omega arith, j .0, valid-next b i (c .before .before .before .loop-test .taken) (c .before .before .before .before .loop .inv .4) (j .1), length-set (c .before .before .before .before .loop .lens) i _ ∙ c .before .before .before .before .loop .inv .5, filled-next (λ k. resourceAt b k .timeline .len) (c .before .before .before .before .loop .lens) i _ 0 (omega (arith, c .before .before .before .before .loop .inv .5)) (c .before .before .before .before .loop .inv .6) refl)
 
 transport-right-requires : tie.Need-transport-right-requires Inv-loop μ-loop
 transport-right-requires c κs = search needs

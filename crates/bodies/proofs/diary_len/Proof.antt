@@ -2,15 +2,18 @@
 use native.Mathlib.Omega.{arith}
 use mathlib.Core.Path.{sym}
 use Prim.Native.Nat.{_-_}
-use Rattle.bodies.proofs.Lengths.{is-1, is-4, two-three, unknown}
+use Rattle.bodies.specs.Bodies.{fixedLen}
+use Rattle.bodies.proofs.Lengths.{fixed-at, two-three, unknown}
 use Rattle.bodies.proofs.diary_len.Statement.{statement}
 use Rattle.bodies.proofs.diary_len.Tie as tie
 
 returns : tie.Need-returns
-returns c = sym (is-1 _ (omega arith))
+unfolding fixedLen
+returns c = sym (fixed-at (c .before .args .kind) 1 (omega arith))
 
 returns-2 : tie.Need-returns-2
-returns-2 c = sym (is-4 _ (omega arith))
+unfolding fixedLen
+returns-2 c = sym (fixed-at (c .before .args .kind) 4 (omega arith))
 
 returns-3 : tie.Need-returns-3
 returns-3 c = sym (two-three _ (omega arith) (omega arith))

@@ -2,21 +2,26 @@
 use native.Mathlib.Omega.{arith}
 use mathlib.Core.Path.{sym}
 use Prim.Native.Nat.{_-_}
-use Rattle.bodies.proofs.Lengths.{is-21, is-22, is-23, is-24, unknown}
+use Rattle.bodies.specs.Bodies.{fixedLen}
+use Rattle.bodies.proofs.Lengths.{fixed-at, unknown}
 use Rattle.bodies.proofs.order_len.Statement.{statement}
 use Rattle.bodies.proofs.order_len.Tie as tie
 
 returns : tie.Need-returns
-returns c = sym (is-21 _ (omega arith))
+unfolding fixedLen
+returns c = sym (fixed-at (c .before .args .kind) 21 (omega arith))
 
 returns-2 : tie.Need-returns-2
-returns-2 c = sym (is-22 _ (omega arith))
+unfolding fixedLen
+returns-2 c = sym (fixed-at (c .before .args .kind) 22 (omega arith))
 
 returns-3 : tie.Need-returns-3
-returns-3 c = sym (is-23 _ (omega arith))
+unfolding fixedLen
+returns-3 c = sym (fixed-at (c .before .args .kind) 23 (omega arith))
 
 returns-4 : tie.Need-returns-4
-returns-4 c = sym (is-24 _ (omega arith))
+unfolding fixedLen
+returns-4 c = sym (fixed-at (c .before .args .kind) 24 (omega arith))
 
 returns-5 : tie.Need-returns-5
 returns-5 c = sym (unknown _ (λ e. omega arith) (λ e. omega arith) (λ e. omega arith) (λ e. omega arith) (λ e. omega arith) (λ e. omega arith) (λ e. omega arith) (λ e. omega arith) (λ e. omega arith) (λ e. omega arith) (λ e. omega arith) (λ e. omega arith))

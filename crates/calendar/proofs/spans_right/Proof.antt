@@ -5,7 +5,7 @@ use mathlib.Core.Path.{_≡_, refl, sym, _∙_}
 use Prim.Native.Nat.{_-_, _≤_}
 use native.Mathlib.Omega.{arith}
 use Rattle.calendar.specs.Valid.{cellAt, spansRight}
-use Rattle.calendar.specs.Every.{everyFrom, from-step, from-end}
+use Rattle.calendar.specs.Every.{everyFrom, from-stop, from-more, from-done}
 use Rattle.calendar.proofs.spans_right.Statement.{statement}
 use Rattle.calendar.proofs.spans_right.Tie as tie
 
@@ -42,7 +42,7 @@ returns-2 : tie.Need-returns-2 Inv-loop μ-loop
 returns-2 c =
     let e = sym (c .before .cell-right .ensures) ∙ not-true _ (c .if2 .taken) in
     let v = c .before .before .before .before .before .loop .inv in
-    sym (v .3 ∙ from-step _ _ _ (c .before .before .before .before .loop-test .taken) ∙ rw e refl)
+    from-stop _ (v .3) (c .before .before .before .before .loop-test .taken) e
 
 add-i : tie.Need-add-i Inv-loop μ-loop
 add-i c = search needs
@@ -54,10 +54,10 @@ loop-again : tie.Need-loop-again Inv-loop μ-loop
 loop-again c =
     let e = sym (c .before .cell-right .ensures) ∙ not-false _ (c .if2 .left) in
     let v = c .before .before .before .before .before .loop .inv in
-    (refl, omega arith, omega arith, v .3 ∙ from-step _ _ _ (c .before .before .before .before .loop-test .taken) ∙ rw e refl)
+    (refl, omega arith, omega arith, from-more _ (v .3) (c .before .before .before .before .loop-test .taken) e)
 
 returns-3 : tie.Need-returns-3 Inv-loop μ-loop
-returns-3 c = sym (c .before .loop .inv .3 ∙ from-end _ _ _ (omega arith))
+returns-3 c = from-done _ (c .before .loop .inv .3) (omega arith)
 
 pub spans-right-spec : {M : Type 1} → statement M
 spans-right-spec =

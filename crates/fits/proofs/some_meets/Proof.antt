@@ -1,12 +1,12 @@
 -- `fits::some_meets` meets its contract. The loop: what is left of the spans decides as all of them do.
 use borrow.Author.Needs.{needs}
-use mathlib.Core.Path.{_≡_, refl, sym, _∙_}
+use mathlib.Core.Path.{_≡_, refl}
 use mathlib.Core.Bool.{false}
 use mathlib.Core.Logic.{⊎-elim}
 use Prim.Native.Nat.{_-_, _≤_}
 use native.Mathlib.Omega.{arith}
 use Rattle.calendar.specs.Spans.{spanAt, spansFrom, spans, any, meets}
-use Rattle.calendar.specs.Spanning.{any-step, any-end, meets-yes, meets-no}
+use Rattle.calendar.specs.Spanning.{any-stop, any-more, any-done, meets-yes, meets-no}
 use native.Mathlib.Nat.{sub-zero}
 use Rattle.fits.proofs.some_meets.Statement.{statement}
 use Rattle.fits.proofs.some_meets.Tie as tie
@@ -36,7 +36,7 @@ returns : tie.Need-returns Inv-loop μ-loop
 returns c =
     let v = c .before .before .before .before .before .loop .inv in
     let e = meets-yes _ _ _ (c .before .before .if1 .taken) (c .if2 .taken) in
-    sym (v .3 ∙ any-step _ _ _ _ (c .before .before .before .before .loop-test .taken) ∙ rw e refl)
+    any-stop _ _ (v .3) (c .before .before .before .before .loop-test .taken) e
 
 add-i : tie.Need-add-i Inv-loop μ-loop
 add-i c = search needs
@@ -50,12 +50,12 @@ loop-again c =
     let a = c .before .before .before .before .args in
     let e : meets (a .start) (a .end) (spanAt (a .t1) (c .before .before .before .loop .i)) ≡ false =
     meets-no _ _ _ (λ h g. ⊎-elim (λ w. omega arith) (λ w. omega arith) (c .if1 .came)) in
-    (refl, omega arith, omega arith, v .3 ∙ any-step _ _ _ _ (c .before .before .loop-test .taken) ∙ rw e refl)
+    (refl, omega arith, omega arith, any-more _ _ (v .3) (c .before .before .loop-test .taken) e)
 
 returns-2 : tie.Need-returns-2 Inv-loop μ-loop
 returns-2 c =
     let v = c .before .loop .inv in
-    sym (v .3 ∙ any-end _ _ _ _ (omega arith))
+    any-done _ _ (v .3) (omega arith)
 
 pub some-meets-spec : {M : Type 1} → statement M
 some-meets-spec =

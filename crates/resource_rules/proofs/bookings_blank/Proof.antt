@@ -4,7 +4,7 @@ use borrow.Author.Tests.{not-true, not-false}
 use mathlib.Core.Path.{_≡_, refl, sym, _∙_}
 use Prim.Native.Nat.{_-_, _≤_}
 use native.Mathlib.Omega.{arith}
-use Rattle.calendar.specs.Every.{everyFrom, from-step, from-end}
+use Rattle.calendar.specs.Every.{everyFrom, from-stop, from-more, from-done}
 use Rattle.timeline.specs.Valid as timeline
 use Rattle.resource_rules.proofs.bookings_blank.Statement.{statement}
 use Rattle.resource_rules.proofs.bookings_blank.Tie as tie
@@ -48,7 +48,7 @@ booking-blank-requires c κs = search needs
 returns : tie.Need-returns Inv-loop μ-loop
 returns c =
     let e = sym (c .before .booking-blank .ensures) ∙ not-true _ (c .if1 .taken) in
-    sym (c .before .before .before .before .before .before .before .loop .inv .1 ∙ from-step _ _ _ (c .before .before .before .before .before .before .loop-test .taken) ∙ rw e refl)
+    from-stop _ (c .before .before .before .before .before .before .before .loop .inv .1) (c .before .before .before .before .before .before .loop-test .taken) e
 
 add-i : tie.Need-add-i Inv-loop μ-loop
 add-i c = search needs
@@ -59,10 +59,10 @@ loop-less c = search needs
 loop-again : tie.Need-loop-again Inv-loop μ-loop
 loop-again c =
     let e = sym (c .before .booking-blank .ensures) ∙ not-false _ (c .if1 .left) in
-    (omega arith, c .before .before .before .before .before .before .before .loop .inv .1 ∙ from-step _ _ _ (c .before .before .before .before .before .before .loop-test .taken) ∙ rw e refl)
+    (omega arith, from-more _ (c .before .before .before .before .before .before .before .loop .inv .1) (c .before .before .before .before .before .before .loop-test .taken) e)
 
 returns-2 : tie.Need-returns-2 Inv-loop μ-loop
-returns-2 c = sym (c .before .loop .inv .1 ∙ from-end _ _ _ (omega arith))
+returns-2 c = from-done _ (c .before .loop .inv .1) (omega arith)
 
 pub bookings-blank-spec : {M : Type 1} → statement M
 bookings-blank-spec =

@@ -6,7 +6,7 @@ use Prim.Native.Nat.{_-_, _≤_}
 use native.Mathlib.Omega.{arith}
 use lib.ListN.{getD}
 use Rattle.board.specs.Valid.{companionCell, companionsRight}
-use Rattle.calendar.specs.Every.{everyFrom, from-step, from-end}
+use Rattle.calendar.specs.Every.{everyFrom, from-stop, from-more, from-done}
 use Rattle.resource_rules.proofs.companions_right.Statement.{statement}
 use Rattle.resource_rules.proofs.companions_right.Tie as tie
 
@@ -33,7 +33,7 @@ companion-cell-requires c κs = search needs
 returns-2 : tie.Need-returns-2 Inv-loop μ-loop
 returns-2 c =
     let e = sym (c .before .companion-cell .ensures) ∙ not-true _ (c .if2 .taken) in
-    sym (c .before .before .before .before .loop .inv .1 ∙ from-step _ _ _ (c .before .before .before .loop-test .taken) ∙ rw e refl)
+    from-stop _ (c .before .before .before .before .loop .inv .1) (c .before .before .before .loop-test .taken) e
 
 add-i : tie.Need-add-i Inv-loop μ-loop
 add-i c = search needs
@@ -44,10 +44,10 @@ loop-less c = search needs
 loop-again : tie.Need-loop-again Inv-loop μ-loop
 loop-again c =
     let e = sym (c .before .companion-cell .ensures) ∙ not-false _ (c .if2 .left) in
-    (omega arith, c .before .before .before .before .loop .inv .1 ∙ from-step _ _ _ (c .before .before .before .loop-test .taken) ∙ rw e refl)
+    (omega arith, from-more _ (c .before .before .before .before .loop .inv .1) (c .before .before .before .loop-test .taken) e)
 
 returns-3 : tie.Need-returns-3 Inv-loop μ-loop
-returns-3 c = sym (c .before .loop .inv .1 ∙ from-end _ _ _ (omega arith))
+returns-3 c = from-done _ (c .before .loop .inv .1) (omega arith)
 
 pub companions-right-spec : {M : Type 1} → statement M
 companions-right-spec =

@@ -9,7 +9,7 @@ use lib.ListN.{getD}
 use mir.Syntax.{w64}
 use mir.ValLaws.{toZ-ofZ}
 use Rattle.board.specs.Valid.{entryCell}
-use Rattle.calendar.specs.Every.{everyFrom, from-step, from-end}
+use Rattle.calendar.specs.Every.{everyFrom, from-stop, from-more, from-done}
 use Rattle.resource_rules.proofs.initials_right.Statement.{statement}
 use Rattle.resource_rules.proofs.initials_right.Tie as tie
 
@@ -35,7 +35,7 @@ returns : tie.Need-returns Inv-loop μ-loop
 returns c =
     let back = toZ-ofZ w64 (getD (c .before .before .before .before .before .args .entries .now) (c .before .before .before .before .loop .i) (pos 0)) (record { sfits = c .before .before .ms .given }) in
     let e = sym (rw back at (c .before .entry-cell .ensures)) ∙ not-true _ (c .if1 .taken) in
-    sym (c .before .before .before .before .loop .inv .1 ∙ from-step _ _ _ (c .before .before .before .loop-test .taken) ∙ rw e refl)
+    from-stop _ (c .before .before .before .before .loop .inv .1) (c .before .before .before .loop-test .taken) e
 
 add-i : tie.Need-add-i Inv-loop μ-loop
 add-i c = search needs
@@ -47,10 +47,10 @@ loop-again : tie.Need-loop-again Inv-loop μ-loop
 loop-again c =
     let back = toZ-ofZ w64 (getD (c .before .before .before .before .before .args .entries .now) (c .before .before .before .before .loop .i) (pos 0)) (record { sfits = c .before .before .ms .given }) in
     let e = sym (rw back at (c .before .entry-cell .ensures)) ∙ not-false _ (c .if1 .left) in
-    (omega arith, c .before .before .before .before .loop .inv .1 ∙ from-step _ _ _ (c .before .before .before .loop-test .taken) ∙ rw e refl)
+    (omega arith, from-more _ (c .before .before .before .before .loop .inv .1) (c .before .before .before .loop-test .taken) e)
 
 returns-2 : tie.Need-returns-2 Inv-loop μ-loop
-returns-2 c = sym (c .before .loop .inv .1 ∙ from-end _ _ _ (omega arith))
+returns-2 c = from-done _ (c .before .loop .inv .1) (omega arith)
 
 pub initials-right-spec : {M : Type 1} → statement M
 initials-right-spec =

@@ -10,7 +10,7 @@ use mir.Syntax.{w64}
 use mir.Val.{ofZ}
 use Rattle.board.specs.Valid.{isZero}
 use Rattle.board.proofs.Numbers.{zero-bits}
-use Rattle.calendar.specs.Every.{everyFrom, from-step, from-end}
+use Rattle.calendar.specs.Every.{everyFrom, from-stop, from-more, from-done}
 use Rattle.resource_rules.proofs.pairs_blank.Statement.{statement}
 use Rattle.resource_rules.proofs.pairs_blank.Tie as tie
 
@@ -33,7 +33,7 @@ returns : tie.Need-returns Inv-loop μ-loop
 returns c =
     let z = getD (c .before .before .before .before .args .entries .now) (c .before .before .before .loop .i) (pos 0) in
     let e = sym (zero-bits z (record { sfits = c .before .ms .given })) ∙ ne-eqb (ofZ w64 z) 0 (c .if1 .taken) in
-    sym (c .before .before .before .loop .inv .1 ∙ from-step _ _ _ (c .before .before .loop-test .taken) ∙ rw e refl)
+    from-stop _ (c .before .before .before .loop .inv .1) (c .before .before .loop-test .taken) e
 
 add-i : tie.Need-add-i Inv-loop μ-loop
 add-i c = search needs
@@ -45,10 +45,10 @@ loop-again : tie.Need-loop-again Inv-loop μ-loop
 loop-again c =
     let z = getD (c .before .before .before .before .args .entries .now) (c .before .before .before .loop .i) (pos 0) in
     let e = sym (zero-bits z (record { sfits = c .before .ms .given })) ∙ eq-eqb (ofZ w64 z) 0 (c .if1 .left) in
-    (omega arith, c .before .before .before .loop .inv .1 ∙ from-step _ _ _ (c .before .before .loop-test .taken) ∙ rw e refl)
+    (omega arith, from-more _ (c .before .before .before .loop .inv .1) (c .before .before .loop-test .taken) e)
 
 returns-2 : tie.Need-returns-2 Inv-loop μ-loop
-returns-2 c = sym (c .before .loop .inv .1 ∙ from-end _ _ _ (omega arith))
+returns-2 c = from-done _ (c .before .loop .inv .1) (omega arith)
 
 pub pairs-blank-spec : {M : Type 1} → statement M
 pairs-blank-spec =

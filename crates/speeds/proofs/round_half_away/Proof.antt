@@ -1,4 +1,4 @@
--- `speeds::round_half_away` meets its contract. What the code reads of the bit pattern is the value's own digits and exponent (`proofs/Away.antt`).
+-- `speeds::round_half_away` meets its contract. What the code reads of the bit pattern is the value's own digits and exponent (`proofs/Rounding.antt`).
 use mathlib.Core.Path.{_≡_, sym, ap, _∙_, subst}
 use Prim.Native.Nat.{ℕ, _+_, _-_, _/_, _^_, _≤_, _<_}
 use native.Mathlib.Omega.{arith}

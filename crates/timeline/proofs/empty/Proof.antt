@@ -5,7 +5,7 @@ use mathlib.Core.Path.{_≡_, refl, sym, _∙_}
 use Prim.Native.Nat.{_-_, _≤_}
 use native.Mathlib.Omega.{arith}
 use Rattle.timeline.specs.Valid.{emptyFrom}
-use Rattle.calendar.specs.Every.{from-step, from-end}
+use Rattle.calendar.specs.Every.{from-stop, from-more, from-done}
 use Rattle.timeline.proofs.empty.Statement.{statement}
 use Rattle.timeline.proofs.empty.Tie as tie
 
@@ -50,7 +50,7 @@ returns : tie.Need-returns Inv-loop μ-loop
 returns c =
     let e = sym (c .before .cell-empty .ensures) ∙ not-true _ (c .if1 .taken) in
     let d = c .before .before .before .before .before .before in
-    sym (d .before .loop .inv .1 ∙ from-step _ _ _ (d .loop-test .taken) ∙ rw e refl)
+    from-stop _ (d .before .loop .inv .1) (d .loop-test .taken) e
 
 add-i : tie.Need-add-i Inv-loop μ-loop
 add-i c = search needs
@@ -62,10 +62,10 @@ loop-again : tie.Need-loop-again Inv-loop μ-loop
 loop-again c =
     let e = sym (c .before .cell-empty .ensures) ∙ not-false _ (c .if1 .left) in
     let d = c .before .before .before .before .before .before in
-    (omega arith, d .before .loop .inv .1 ∙ from-step _ _ _ (d .loop-test .taken) ∙ rw e refl)
+    (omega arith, from-more _ (d .before .loop .inv .1) (d .loop-test .taken) e)
 
 returns-2 : tie.Need-returns-2 Inv-loop μ-loop
-returns-2 c = sym (c .before .loop .inv .1 ∙ from-end _ _ _ (omega arith))
+returns-2 c = from-done _ (c .before .loop .inv .1) (omega arith)
 
 pub empty-spec : {M : Type 1} → statement M
 empty-spec =

@@ -8,7 +8,7 @@ use Prim.Native.Nat.{_-_, _*_, _≤_}
 use native.Mathlib.Nat.{sub-zero}
 use native.Mathlib.Omega.{arith}
 use lib.ListN.{getD}
-use Rattle.calendar.specs.Every.{from-step, from-end}
+use Rattle.calendar.specs.Every.{from-stop, from-more, from-done}
 use Rattle.timeline.specs.Bookings.{bookingAt, bookingsTo, bookings, total}
 use Rattle.timeline.specs.Valid.{before, filledFrom}
 use Rattle.timeline.proofs.Rules.{before-step, cell-facts, CellFacts}
@@ -74,8 +74,8 @@ returns c =
     let e = sym (c .before .cell-right .ensures) ∙ not-true _ (c .if1 .taken) in
     let d = c .before .before .before .before .before .before in
     let t = d .before .before .args .t1 in
-    let f : filledFrom t 0 (t .len) ≡ false = d .before .loop .inv .5 ∙ from-step _ _ _ (d .loop-test .taken) ∙ rw (← d .before .loop .inv .3, ← d .before .loop .inv .4, e) refl in
-    rw f refl
+    let f : false ≡ filledFrom t 0 (t .len) = from-stop _ (d .before .loop .inv .5) (d .loop-test .taken) (rw (← d .before .loop .inv .3, ← d .before .loop .inv .4) e) in
+    rw (← f) refl
 
 sub-sum : tie.Need-sub-sum Inv-loop μ-loop
 sub-sum c =
@@ -105,7 +105,7 @@ loop-again c =
     let d = c .before .before .before .before .before .before in
     let i = d .before .loop .i in
     let t = d .before .before .args .t1 in
-    (refl, omega arith, omega arith, before-step _ _, before-step _ _, d .before .loop .inv .5 ∙ from-step _ _ _ (d .loop-test .taken) ∙ rw (← d .before .loop .inv .3, ← d .before .loop .inv .4, e) refl, cc (rows-step (t .starts) (t .ends) (t .units) i, total-snoc (bookingsTo (t .starts) (t .ends) (t .units) i) (bookingAt (t .starts) (t .ends) (t .units) i)), omega (arith, small c))
+    (refl, omega arith, omega arith, before-step _ _, before-step _ _, from-more _ (d .before .loop .inv .5) (d .loop-test .taken) (rw (← d .before .loop .inv .3, ← d .before .loop .inv .4) e), cc (rows-step (t .starts) (t .ends) (t .units) i, total-snoc (bookingsTo (t .starts) (t .ends) (t .units) i) (bookingAt (t .starts) (t .ends) (t .units) i)), omega (arith, small c))
 
 returns-2 : tie.Need-returns-2 Inv-loop μ-loop
 returns-2 c =
@@ -113,9 +113,9 @@ returns-2 c =
     let t = d .args .t1 in
     let i = c .before .loop .i in
     let f : i ≡ t .len = omega arith in
-    let g : filledFrom t 0 (t .len) ≡ true = c .before .loop .inv .5 ∙ from-end _ _ _ (omega arith) in
+    let g : true ≡ filledFrom t 0 (t .len) = from-done _ (c .before .loop .inv .5) (omega arith) in
     let h : c .before .loop .sum ≡ total (bookings t) = c .before .loop .inv .6 ∙ rw f refl in
-    rw (g, ← h) refl
+    rw (← g, ← h) refl
 
 pub filled-spec : {M : Type 1} → statement M
 filled-spec =

@@ -2,13 +2,15 @@
 use borrow.Author.Needs.{needs}
 use native.Mathlib.Omega.{arith}
 use Prim.Native.Nat.{_-_}
-use Rattle.bodies.proofs.Lengths.{is-22, nine}
+use Rattle.bodies.specs.Bodies.{fixedLen}
+use Rattle.bodies.proofs.Lengths.{fixed-at, nine}
 use Rattle.board_records.proofs.Ordering.{part-more, part-above, part-timed}
 use Rattle.board_records.proofs.order.part.Statement.{statement}
 use Rattle.board_records.proofs.order.part.Tie as tie
 
 requirement-at-requires : tie.Need-requirement-at-requires
-requirement-at-requires c κs = omega (arith, is-22 (c .before .before .args .kind) (omega arith), c .before .before .pre .2)
+unfolding fixedLen
+requirement-at-requires c κs = omega (arith, fixed-at (c .before .before .args .kind) 22 (omega arith), c .before .before .pre .2)
 
 with-requirement-requires : tie.Need-with-requirement-requires
 with-requirement-requires c κs = search needs

@@ -2,7 +2,8 @@
 use borrow.Author.Needs.{needs}
 use native.Mathlib.Omega.{arith}
 use Prim.Native.Nat.{_-_}
-use Rattle.bodies.proofs.Lengths.{is-23, is-24}
+use Rattle.bodies.specs.Bodies.{fixedLen}
+use Rattle.bodies.proofs.Lengths.{fixed-at}
 use Rattle.board_records.proofs.Ordering.{speed-is, own-is}
 use Rattle.board_records.proofs.order.timing_at.Statement.{statement}
 use Rattle.board_records.proofs.order.timing_at.Tie as tie
@@ -11,7 +12,8 @@ add-number : tie.Need-add-number
 add-number c = search needs
 
 number-requires : tie.Need-number-requires
-number-requires c κs = (omega arith, omega (arith, is-23 (c .before .before .args .kind) (omega arith), c .before .before .pre .2))
+unfolding fixedLen
+number-requires c κs = (omega arith, omega (arith, fixed-at (c .before .before .args .kind) 23 (omega arith), c .before .before .pre .2))
 
 double-requires : tie.Need-double-requires
 double-requires c κs = search needs
@@ -23,7 +25,8 @@ add-duration-at : tie.Need-add-duration-at
 add-duration-at c = search needs
 
 duration-at-requires : tie.Need-duration-at-requires
-duration-at-requires c κs = omega (arith, is-24 (c .before .before .args .kind) (omega arith), c .before .before .pre .2)
+unfolding fixedLen
+duration-at-requires c κs = omega (arith, fixed-at (c .before .before .args .kind) 24 (omega arith), c .before .before .pre .2)
 
 returns-2 : tie.Need-returns-2
 returns-2 c = own-is _ _ _ _ (λ e. omega arith) (c .duration-at .ensures)

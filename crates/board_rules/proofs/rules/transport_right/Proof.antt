@@ -9,7 +9,7 @@ use native.Mathlib.Omega.{arith}
 use lib.Dec.{ltb}
 use lib.ListN.{getD}
 use Rattle.board.specs.Valid.{transportCell}
-use Rattle.calendar.specs.Every.{everyFrom, from-step, from-end}
+use Rattle.calendar.specs.Every.{everyFrom, from-stop, from-more, from-done}
 use Rattle.board_rules.proofs.rules.transport_right.Statement.{statement}
 use Rattle.board_rules.proofs.rules.transport_right.Tie as tie
 
@@ -53,7 +53,7 @@ transport-cell-requires c κs = search needs
 returns : tie.Need-returns Inv-loop μ-loop
 returns c =
     let e = sym (c .before .transport-cell .ensures) ∙ not-true _ (c .if1 .taken) in
-    sym (c .before .before .before .before .before .before .loop .inv .1 ∙ from-step _ _ _ (c .before .before .before .before .before .loop-test .taken) ∙ rw e refl)
+    from-stop _ (c .before .before .before .before .before .before .loop .inv .1) (c .before .before .before .before .before .loop-test .taken) e
 
 add-k : tie.Need-add-k Inv-loop μ-loop
 add-k c = search needs
@@ -64,10 +64,10 @@ loop-less c = search needs
 loop-again : tie.Need-loop-again Inv-loop μ-loop
 loop-again c =
     let e = sym (c .before .transport-cell .ensures) ∙ not-false _ (c .if1 .left) in
-    (omega arith, c .before .before .before .before .before .before .loop .inv .1 ∙ from-step _ _ _ (c .before .before .before .before .before .loop-test .taken) ∙ rw e refl)
+    (omega arith, from-more _ (c .before .before .before .before .before .before .loop .inv .1) (c .before .before .before .before .before .loop-test .taken) e)
 
 returns-2 : tie.Need-returns-2 Inv-loop μ-loop
-returns-2 c = sym (c .before .loop .inv .1 ∙ from-end _ _ _ (omega arith))
+returns-2 c = from-done _ (c .before .loop .inv .1) (omega arith)
 
 pub transport-right-spec : {M : Type 1} → statement M
 transport-right-spec =
