@@ -8,7 +8,6 @@ use lib.Dec.{leb, ltb}
 use lib.ListN.{getD, length, take}
 use lib.Seq.{getD-take}
 use borrow.Author.Tests.{lt-ltb, le-ltb, le-leb, lt-leb, leb-true, ltb-false, not-false}
-use Rattle.calendar.specs.Valid.{valid}
 use Rattle.calendar.specs.Basics.{and-split, and-join, and-false, or-left, or-right, unrefused}
 use Rattle.activity.specs.declared.ActivityDuration.{ActivityDuration}
 use Rattle.activity.specs.declared.ResourceTiming.{ResourceTiming}
@@ -18,7 +17,7 @@ use Rattle.activity.specs.declared.ResourceRequirement.{ResourceRequirem
 use Rattle.activity.specs.declared.Activity.{Activity}
 use Rattle.activity.specs.Durations.{untimed, timingOf}
 use Rattle.calendar.specs.Every.{every, every-at, every-in, every-of}
-use Rattle.activity.specs.Check.{releaseRight, short, timingShort, timingSpeed, quantity, quantityRight, quantitiesRight, usageRight, requirementsOf, timesRight, activityRefusal, checkReply, heldRight}
+use Rattle.activity.specs.Check.{releaseRight, short, timingShort, timingSpeed, quantity, quantityRight, quantitiesRight, usageRight, requirementsOf, timesRight, activityRefusal, heldRight}
 use Rattle.activity.specs.Lawful.{Short, LawfulTiming, Lawful}
 use Rattle.activity.specs.Check.{noRequirement}
 
@@ -164,17 +163,6 @@ module _ (a : Activity) (ready : ℕ) (e : activityRefusal a ready ≡ 0) where
         total-range = leb-true (quantity (requirementsOf a)) 8 (q .1);
         used = λ i h. usage-says (getD (requirementsOf a) i noRequirement) (every-in usageRight (requirementsOf a) i noRequirement h (p .usages));
       }
-
--- An order that is not refused is lawful ..
-pub lawful-order : (a : Activity) (ready : ℕ) → activityRefusal a ready ≡ 0 → Lawful (a .duration) (a .timings)
-lawful-order a ready e = accepted a ready e .lawful
-
--- .. and one that passes `check` has a calendar that keeps the rules besides
-pub check-passed : (a : Activity) (ready : ℕ) → checkReply a ready ≡ 0 → (valid (a .calendar) ≡ true) × (activityRefusal a ready ≡ 0)
-unfolding checkReply
-check-passed a ready e =
-    let p = unrefused (not (valid (a .calendar))) 14 (activityRefusal a ready) e in
-    (not-false (valid (a .calendar)) (p .0), p .1)
 
 -- The other way round: an order that keeps every range is not refused.
 short-is : (d : ActivityDuration) → Short d → short d ≡ true

@@ -22,11 +22,12 @@ use Rattle.board.specs.Resources.{noResource, resourcesOf, resourceAt, onBoard}
 use Rattle.board.specs.Valid as board
 use Rattle.board.proofs.Meaning.{resource-of, greatest-small, setup-small}
 use Rattle.scheduler.specs.Alone.{Share, allStart, lastOf, earliestOf, companionsOf, withCompanions, durationAlone, spanOf, spanAlone, arrival, startWith, startAlone}
+use Rattle.scheduler.specs.Plain.{startsThere}
 use Rattle.scheduler.specs.Arrays.{each-at}
 use Rattle.scheduler.specs.Together.{Sound}
-use Rattle.scheduler.specs.Latest.{last-small, together-answers, together-is}
+use Rattle.scheduler.specs.Latest.{last-small}
 use Rattle.scheduler.specs.Ruled.{all-kept, all-there}
-use Rattle.scheduler.specs.Answering.{Kept, Answers}
+use Rattle.scheduler.specs.Answering.{Kept, Answers, answers-same, alone-answers}
 use Rattle.answering.specs.Tables.{foundAt, numberOf}
 
 -- span and arrival of a resource alone are in range
@@ -97,32 +98,15 @@ module _ (b : Board) (v : board.valid b ≡ true) (a : Activity) (ready : ℕ) (
 
   -- from a later instant, up to the start, it is the same
   pub found-later : (t u : ℕ) → t ≤ u → u ≤ numberOf (foundAt b a ready q t i) → foundAt b a ready q u i ≡ foundAt b a ready q t i
-  unfolding foundAt startAlone startWith numberOf
-  found-later t u m = go (serves q (resourceAt b i .number) (resourceAt b i .kind) (resourceAt b i .skills))
+  unfolding foundAt numberOf
+  found-later t u m n = answers-same P P u (foundAt b a ready q u i) (foundAt b a ready q t i) (λ y o. refl) (answers u) (same (foundAt b a ready q t i) (answers t) n)
     where
-      xs : List Share
-      xs = withCompanions b (resourceAt b i) (q .usage)
+      P : ℕ → Bool
+      P y = startsThere b a ready q (resourceAt b i) y
 
-      arrives : ℕ
-      arrives = arrival b a ready (resourceAt b i)
+      answers : (y : ℕ) → Answers P y (foundAt b a ready q y i)
+      answers y = alone-answers b a ready q (resourceAt b i) (companions-kept b v a ready w i l q) y
 
-      span : ℕ
-      span = spanAlone a (resourceAt b i)
-
-      found : ℕ → Found
-      found y = earliestOf (a .resumable) span xs (max y arrives)
-
-      same : Sound xs → (f : Found) → Answers (allStart (a .resumable) span xs) (max t arrives) f → u ≤ numberOf f → Answers (allStart (a .resumable) span xs) (max u arrives) f
-      same k nothing h n = λ y o. h y (omega arith)
-      same k (at s) h n = record { low = omega (arith, h .low); holds = h .holds; first = λ y o z. h .first y (omega arith) z }
-
-      with : (c : Bool) → every (onBoard b) (companionsOf (resourceAt b i)) ≡ c → u ≤ numberOf (cond c (found t) nothing) → cond c (found u) nothing ≡ cond c (found t) nothing
-      with true e n =
-          let k = companions-kept b v a ready w i l q e in
-          sym (together-is (a .resumable) span xs (max u arrives) (found t) k (same k (found t) (together-answers (a .resumable) span xs (max t arrives) k) n))
-      with false e n = refl
-
-      go : (c : Bool) → u ≤ numberOf (cond c (cond (every (onBoard b) (companionsOf (resourceAt b i))) (found t) nothing) nothing)
-          → cond c (cond (every (onBoard b) (companionsOf (resourceAt b i))) (found u) nothing) nothing ≡ cond c (cond (every (onBoard b) (companionsOf (resourceAt b i))) (found t) nothing) nothing
-      go true n = with (every (onBoard b) (companionsOf (resourceAt b i))) refl n
-      go false n = refl
+      same : (f : Found) → Answers P t f → u ≤ numberOf f → Answers P u f
+      same nothing h o = λ y k. h y (omega arith)
+      same (at s) h o = record { low = o; holds = h .holds; first = λ y k z. h .first y (omega arith) z }

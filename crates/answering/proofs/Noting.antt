@@ -7,7 +7,6 @@ use Prim.Native.Nat.{ℕ, _+_, _*_, _/_, _%_, _≤_, _<_}
 use native.Mathlib.Omega.{arith}
 use lib.ListN.{getD, set, replicate, length-set, getD-replicate}
 use lib.Seq.{getD-set-same, getD-set-other}
-use lib.Dec.{ltb}
 use borrow.Author.Tests.{ltb-false, lt-ltb}
 use Rattle.calendar.specs.Basics.{not-both, same-or-not}
 use Rattle.calendar.specs.Search.{Found}
@@ -15,7 +14,7 @@ use Rattle.activity.specs.declared.Activity.{Activity}
 use Rattle.activity.specs.Check.{activityRefusal}
 use Rattle.board.specs.declared.Board.{Board}
 use Rattle.board.specs.Valid as board
-use Rattle.answering.specs.Tables.{numberOf, foundAt, requirementAt, startFor, Kept}
+use Rattle.answering.specs.Tables.{numberOf, foundAt, requirementAt, startFor, Kept, toAsk}
 use Rattle.answering.proofs.Finding.{found-later}
 
 -- before anything is asked
@@ -62,7 +61,7 @@ module _ (b : Board) (v : board.valid b ≡ true) (few : b .len ≤ 16) (a : Act
       (same-or-not k (16 * x + y))
 
   -- nobody is asked
-  pub cell-known : ltb (k % 16) (b .len) && (ltb t (getD asked k 0) || ltb (getD starts k 0) t) ≡ false → Through b a ready t starts (k + 1)
+  pub cell-known : toAsk (k % 16) (b .len) (getD asked k 0) (getD starts k 0) t ≡ false → Through b a ready t starts (k + 1)
   cell-known e = next starts thru (λ l. let h = not-asked _ _ _ e (lt-ltb _ _ l) in rw whole at (kept .so (k / 16) (k % 16) t (omega arith) l (rw whole (ltb-false _ _ (h .0))) (rw whole (ltb-false _ _ (h .1)))))
 
   -- the resource is asked

@@ -1,26 +1,24 @@
 -- What each resource answers to each requirement, as the code keeps it.
 use Prim.Native.Nat.{ℕ, _+_, _*_, _^_, _≤_, _<_}
 use mathlib.Core.Path.{_≡_}
-use mathlib.Core.Bool.{Bool, true, cond, _&&_, _||_}
+use mathlib.Core.Bool.{Bool, true, _&&_, _||_}
 use mathlib.Core.List.{List}
 use lib.ListN.{getD, length}
 use lib.Dec.{ltb}
 use Rattle.calendar.specs.Search.{Found, nothing, at}
 use Rattle.activity.specs.declared.ResourceRequirement.{ResourceRequirement}
 use Rattle.activity.specs.declared.Activity.{Activity}
-use Rattle.activity.specs.Serving.{serves}
 use Rattle.activity.specs.Check.{noRequirement, activityRefusal}
 use Rattle.board.specs.declared.Board.{Board}
 use Rattle.board.specs.Resources.{resourceAt}
 use Rattle.board.specs.Valid.{valid}
-use Rattle.scheduler.specs.Alone.{startAlone}
+use Rattle.scheduler.specs.Answering.{served}
 use Rattle.plans.specs.declared.Plan.{Plan}
 use Rattle.plans.specs.Plans.{Planned}
 
 -- the start of the resource at place i for a requirement, from t on
 unfoldable pub foundAt : Board → Activity → ℕ → ResourceRequirement → ℕ → ℕ → Found
-foundAt b a ready q t i =
-    cond (serves q (resourceAt b i .number) (resourceAt b i .kind) (resourceAt b i .skills)) (startAlone b a ready q (resourceAt b i) t) nothing
+foundAt b a ready q t i = served b a ready q (resourceAt b i) t
 
 -- a start as a number, 2^63 for none
 unfoldable pub numberOf : Found → ℕ

@@ -11,7 +11,6 @@ use borrow.Author.Tests.{ltb-true}
 use Rattle.calendar.specs.Every.{every}
 use Rattle.calendar.specs.Basics.{and-split}
 use Rattle.calendar.specs.Search.{Found, nothing, at}
-use Rattle.timeline.specs.declared.ResourceTimeline.{ResourceTimeline}
 use Rattle.timeline.specs.Valid as timeline
 use Rattle.activity.specs.declared.ResourceRequirement.{ResourceRequirement}
 use Rattle.activity.specs.declared.Activity.{Activity}
@@ -19,24 +18,26 @@ use Rattle.activity.specs.Serving.{serves}
 use Rattle.activity.specs.Check.{activityRefusal}
 use Rattle.board.specs.declared.Resource.{Resource}
 use Rattle.board.specs.declared.Board.{Board}
-use Rattle.board.specs.Resources.{noDiary, resourcesOf, resourceAt, onBoard}
+use Rattle.board.specs.Resources.{resourcesOf, resourceAt, onBoard}
 use Rattle.board.specs.Valid.{valid}
 use Rattle.board.proofs.Facts.{rules}
 use Rattle.board.proofs.Meaning.{resource-of}
 use Rattle.scheduler.specs.Alone.{Share, oneUnit, earliestOf, companionsOf, withCompanions, spanAlone, arrival, startWith, startAlone}
 use Rattle.scheduler.specs.Fitting.{among}
-use Rattle.scheduler.specs.Shares.{startOn, shareAt, sharesTo, timelinesOf, unitsOf, shares-whole, Wanted}
+use Rattle.scheduler.specs.Shares.{startOn, noShare}
 use Rattle.scheduler.specs.Events.{events, above, above-le, among-append}
-use Rattle.scheduler.specs.Ruled.{eventsOn, event-on, points}
+use Rattle.scheduler.specs.Lists.{each-on}
+use Rattle.scheduler.specs.Together.{Sound}
+use Rattle.scheduler.specs.Ruled.{eventsOn, event-on, companions-sound, points}
 use Rattle.scheduler.specs.Tests.{or-in-right}
 use Rattle.scheduler.specs.Asking.{nextAsked, Asked, asked-start, asked-on, asked-none, asked-listed, asked-less, asked-all}
 use Rattle.plans.specs.declared.Plan.{Plan}
 use Rattle.plans.specs.Plans.{planWith, planOf}
 use Rattle.board.specs.Places.{Known}
 use Rattle.seats.specs.Seats.{seatOf}
-use Rattle.seats.proofs.Seating.{seat-none, seat-there, seat-diary, seat-units}
+use Rattle.seats.proofs.Seating.{shareAt, seat-none, seat-there, seat-share}
 use Rattle.together.specs.declared.Asking.{Asking}
-use Rattle.together.specs.Steps.{answeredBy}
+use Rattle.together.specs.Steps.{idle, answeredBy}
 use Rattle.answering.specs.Tables.{foundAt, numberOf}
 use Rattle.answering.proofs.Finding.{span-range, arrival-range}
 use Rattle.members.specs.declared.Member.{Member}
@@ -54,12 +55,6 @@ module _ (b : Board) (a : Activity) (ready i t : ℕ) (q : ResourceRequirement) 
   abbrev those : List Share
   those = withCompanions b r (q .usage)
 
-  abbrev ts : List ResourceTimeline
-  ts = timelinesOf those
-
-  abbrev us : List ℕ
-  us = unitsOf those
-
   -- from the later of t and its arrival
   abbrev from : ℕ
   from = max t (arrival b a ready r)
@@ -68,7 +63,7 @@ module _ (b : Board) (a : Activity) (ready i t : ℕ) (q : ResourceRequirement) 
   pub record Going (g : Asking) : Type 0 where
     pub few : g .next ≤ r .count
     pub soon : g .start ≤ 2 ^ 43
-    pub so : every (onBoard b) (companionsOf r) ≡ true → Asked (a .resumable) (spanAlone a r) ts us (r .count + 1) from (max from (g .start)) (g .next)
+    pub so : every (onBoard b) (companionsOf r) ≡ true → Asked (a .resumable) (spanAlone a r) those from (max from (g .start)) (g .next)
 
   -- after an answer: it goes on or is over, and fewer instants or members are left
   pub record Told (g h : Asking) : Type 0 where
@@ -87,10 +82,10 @@ module _ (b : Board) (a : Activity) (ready i t : ℕ) (q : ResourceRequirement) 
     pub go : Going g
 
   module _ (v : valid b ≡ true) (w : activityRefusal a ready ≡ 0) where
-    pub going-start : t ≤ 2 ^ 43 → i < b .len → Going (record { start = 0; next = 0 })
+    pub going-start : t ≤ 2 ^ 43 → i < b .len → Going idle
     going-start soon l =
         let z : max from 0 ≡ from = omega arith in
-        record { few = omega arith; soon = omega arith; so = λ e. rw z (asked-start _ _ _ _ _ _ (omega (arith, soon, arrival-range b v a ready w i l))) }
+        record { few = omega arith; soon = omega arith; so = λ e. rw z (asked-start _ _ _ _ (omega (arith, soon, arrival-range b v a ready w i l))) }
 
     module _ (places : List ℕ) (known : Known b places) (p : Plan) (g : Asking) (n : Next p g) where
       abbrev l : i < b .len
@@ -127,20 +122,14 @@ module _ (b : Board) (a : Activity) (ready i t : ℕ) (q : ResourceRequirement) 
       all-long = omega (arith, length-map (companionsOf r) (oneUnit b), length-take (r .count) (r .companions), n .whole, resource-of b v i l .few)
 
       module _ (on : every (onBoard b) (companionsOf r) ≡ true) where
-        seat : (k : ℕ) → k < r .count + 1 → (seatOf i (companionsOf r) places k < b .len) × (resourceAt b (seatOf i (companionsOf r) places k) .timeline ≡ getD ts k noDiary) × (cond (ltb 0 k) 1 (q .usage) ≡ getD us k 0)
+        seat : (k : ℕ) → k < r .count + 1 → (seatOf i (companionsOf r) places k < b .len) × (shareAt b (seatOf i (companionsOf r) places k) (cond (ltb 0 k) 1 (q .usage)) ≡ getD those k noShare)
         seat k m =
             let o : k < length those = omega (arith, all-long) in
-            (seat-there b v places known i l (q .usage) on k o, seat-diary b v places known i l (q .usage) on k o, seat-units b v places known i l (q .usage) on k o)
+            (seat-there b v places known i l (q .usage) on k o, seat-share b v places known i l (q .usage) on k o)
 
-        wanted : Wanted ts us (r .count + 1)
-        wanted = record {
-          kept = λ k m. rw (← (seat k m .1)) (resource-of b v (seatOf i (companionsOf r) places k) (seat k m .0) .timeline);
-          some = λ k m. rw (← (seat k m .2)) (units (ltb 0 k));
-        }
-          where
-            units : (c : Bool) → 1 ≤ cond c 1 (q .usage)
-            units true = omega arith
-            units false = n .some
+        sound : Sound those
+        unfolding withCompanions
+        sound = each-on (resource-of b v i l .timeline) (companions-sound b v (companionsOf r) on)
 
       module _ (m : Member) (is : m ≡ memberOf q p i places t g) where
         abbrev here : ℕ
@@ -204,60 +193,61 @@ module _ (b : Board) (a : Activity) (ready i t : ℕ) (q : ResourceRequirement) 
           on : every (onBoard b) (companionsOf r) ≡ true
           on = place-there h .1
 
-          lt : g .next < r .count + 1
-          lt = omega (arith, go .few)
+          lt : g .next < length those
+          lt = omega (arith, go .few, all-long)
 
           seat-is : m .place ≡ seatOf i (companionsOf r) places (g .next)
           seat-is = place-is ∙ rw (place-there h .0) refl
 
           pub there : m .place < b .len
-          there = rw seat-is (seat on (g .next) lt .0)
+          there = rw seat-is (seat on (g .next) (omega (arith, go .few)) .0)
 
           pub diary-kept : timeline.valid (resourceAt b (m .place) .timeline) ≡ true
           diary-kept = resource-of b v (m .place) there .timeline
 
           pub units-some : 1 ≤ m .units
-          units-some = rw (units-is ∙ seat on (g .next) lt .2) (wanted on .some (g .next) lt)
+          units-some = rw units-is (units (ltb 0 (g .next)))
+            where
+              units : (c : Bool) → 1 ≤ cond c 1 (q .usage)
+              units true = omega arith
+              units false = n .some
 
           pub from-small : m .from ≤ 2 ^ 43
           from-small = omega (arith, from-is, go .so on .range)
 
-          diary-is : resourceAt b (m .place) .timeline ≡ getD ts (g .next) noDiary
-          diary-is = ap (λ (k : ℕ). resourceAt b k .timeline) seat-is ∙ seat on (g .next) lt .1
+          share-is : shareAt b (m .place) (m .units) ≡ getD those (g .next) noShare
+          share-is = rw (seat-is, units-is) (seat on (g .next) (omega (arith, go .few)) .1)
 
-          share-is : record { timeline = resourceAt b (m .place) .timeline; units = m .units } ≡ shareAt ts us (g .next)
-          share-is = rw (diary-is, units-is ∙ seat on (g .next) lt .2) refl
-
-          found-is : earliestOf (a .resumable) (spanAlone a r) (sharesTo ts us (r .count + 1)) from ≡ foundAt b a ready q t i
+          found-is : earliestOf (a .resumable) (spanAlone a r) those from ≡ foundAt b a ready q t i
           unfolding foundAt startAlone startWith
-          found-is = rw (place-there h .0, on, ← all-long, shares-whole those) refl
+          found-is = rw (place-there h .0, on) refl
 
-          listed : (x : ℕ) → (x ≡ here) ⊎ (among x (events (getD ts (g .next) noDiary)) ≡ true) → (x ≡ here) ⊎ (among x (points b a ready) ≡ true)
+          listed : (x : ℕ) → (x ≡ here) ⊎ (among x (events (getD those (g .next) noShare .timeline)) ≡ true) → (x ≡ here) ⊎ (among x (points b a ready) ≡ true)
           unfolding points
           listed x =
               ⊎-elim inl
-              (λ (e : among x (events (getD ts (g .next) noDiary)) ≡ true).
-              inr (among-append x (map (arrival b a ready) (resourcesOf b)) (eventsOn (resourcesOf b)) ∙ or-in-right (among x (map (arrival b a ready) (resourcesOf b))) (among x (eventsOn (resourcesOf b))) (event-on x (b .len) (b .resources) (m .place) there (rw diary-is e))))
+              (λ (e : among x (events (getD those (g .next) noShare .timeline)) ≡ true).
+              inr (among-append x (map (arrival b a ready) (resourcesOf b)) (eventsOn (resourcesOf b)) ∙ or-in-right (among x (map (arrival b a ready) (resourcesOf b))) (among x (eventsOn (resourcesOf b))) (event-on x (b .len) (b .resources) (m .place) there (ap (λ (y : Share). among x (events (y .timeline))) share-is ∙ e))))
 
-          asked : (f : Found) → startOn (a .resumable) (spanAlone a r) (shareAt ts us (g .next)) here ≡ f → Told g (answeredBy (g .next) here f)
+          asked : (f : Found) → startOn (a .resumable) (spanAlone a r) (getD those (g .next) noShare) here ≡ f → Told g (answeredBy (g .next) here f)
           unfolding answeredBy numberOf
-          asked nothing e = told-nothing (asked-none (a .resumable) (spanAlone a r) ts us (r .count + 1) from here (g .next) (wanted on) (go .so on) lt e ∙ found-is)
+          asked nothing e = told-nothing (asked-none (a .resumable) (spanAlone a r) those from here (g .next) (sound on) (go .so on) lt e ∙ found-is)
           asked (at x) e =
-              let k = asked-on (a .resumable) (spanAlone a r) ts us (r .count + 1) from here (g .next) (wanted on) (go .so on) lt x e in
-              let w = asked-listed (a .resumable) (spanAlone a r) ts us (r .count + 1) from here (g .next) (wanted on) (go .so on) lt x e in
+              let k = asked-on (a .resumable) (spanAlone a r) those from here (g .next) (sound on) (go .so on) lt x e in
+              let w = asked-listed (a .resumable) (spanAlone a r) those from here (g .next) (sound on) (go .so on) lt x e in
               let y : max from x ≡ x = omega (arith, k .sought .low) in
               record {
                 on = λ z. record { few = z; soon = k .range; so = λ o. rw y k };
-                found = λ z. ap numberOf (asked-all (a .resumable) (spanAlone a r) ts us (r .count + 1) from x (nextAsked (g .next) (eqb x here)) (wanted on) k (omega (arith, z)) ∙ found-is);
+                found = λ z. ap numberOf (asked-all (a .resumable) (spanAlone a r) those from x (nextAsked (g .next) (eqb x here)) (sound on) k (omega (arith, z, all-long)) ∙ found-is);
                 low = omega (arith, k .sought .low);
                 less = asked-less (points b a ready) 5 (g .start) here (g .next) x (omega arith) few (omega arith) (w .0) (listed x (w .1));
               }
 
-          pub told-asked : (f : Found) → f ≡ startOn (a .resumable) (p .span) (record { timeline = resourceAt b (m .place) .timeline; units = m .units }) (m .from) → Told g (answeredBy (g .next) (m .from) f)
+          pub told-asked : (f : Found) → f ≡ startOn (a .resumable) (p .span) (shareAt b (m .place) (m .units)) (m .from) → Told g (answeredBy (g .next) (m .from) f)
           told-asked f e =
               let z =
               e
-              ∙ ap (λ (n : ℕ). startOn (a .resumable) n (record { timeline = resourceAt b (m .place) .timeline; units = m .units }) (m .from)) span-is
+              ∙ ap (λ (n : ℕ). startOn (a .resumable) n (shareAt b (m .place) (m .units)) (m .from)) span-is
               ∙ ap (λ (x : Share). startOn (a .resumable) (spanAlone a r) x (m .from)) share-is
-              ∙ ap (λ (n : ℕ). startOn (a .resumable) (spanAlone a r) (shareAt ts us (g .next)) n) from-is in
+              ∙ ap (λ (n : ℕ). startOn (a .resumable) (spanAlone a r) (getD those (g .next) noShare) n) from-is in
               rw from-is (asked f (sym z))

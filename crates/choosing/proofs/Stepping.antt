@@ -49,7 +49,8 @@ pub record State (b : Board) (a : Activity) (ready : ℕ) (plans : List Plan) (a
   pub none : 16 * a .len ≤ k → g ≡ idle
   pub going : x .done ≡ false → toAsk (k % 16) (b .len) (getD asked k 0) (getD starts k 0) (x .instant) ≡ true → Going b a ready (k % 16) (x .instant) (requirementAt a (k / 16)) g
 
--- instants left, cells left, members left and plans left: the number of instants is what ends the rounds, and the asking in each
+-- instants left, cells left, members left and plans left: the number of instants is what ends the rounds, and the asking in each.
+-- The next cell is asked anew, at most 2,064 * 32 + 5 < 70,000; the next round asks anew at most 64 * 70,000 < 5,000,000.
 unfoldable pub left : Board → Activity → ℕ → Rounds → Asking → ℕ → ℕ → ℕ
 left b a ready x g planned k =
     cond (x .done) 0 (1 + above (points b a ready) (x .instant) * 5000000 + (64 - k) * 70000 + (above (points b a ready) (g .start) * 32 + (5 - g .next)) + (16 - planned))

@@ -1,24 +1,21 @@
 -- The replies of a commitment, over plain values: each refusal in its order, and the board booked.
 use mathlib.Core.Path.{_≡_, refl, sym, _∙_}
-use mathlib.Core.Bool.{Bool, true, false, not, _&&_, _||_, cond}
+use mathlib.Core.Bool.{Bool, true, false, not, cond}
 use mathlib.Core.List.{List, []}
 use mathlib.Core.Logic.{⊎-elim}
-use Prim.Native.Nat.{ℕ, _+_, _^_, _≤_, _<_}
+use Prim.Native.Nat.{ℕ, _^_, _≤_, _<_}
 use native.Mathlib.Omega.{arith}
 use lib.ListN.{length}
-use lib.Dec.{leb, ltb, eqb}
-use borrow.Author.Tests.{lt-leb, le-ltb, lt-ltb, le-leb, ltb-false, leb-false, not-false, not-true, ne-eqb}
+use lib.Dec.{ltb, eqb}
+use borrow.Author.Tests.{lt-leb, le-ltb, lt-ltb, le-leb, ltb-false, not-false, not-true, ne-eqb}
 use Rattle.calendar.specs.Basics.{unrefused, same-or-not}
 use Rattle.calendar.specs.Every.{every}
 use Rattle.board.specs.declared.Board.{Board}
-use Rattle.board.specs.Resources.{onBoard}
 use Rattle.board.specs.Valid as board
 use Rattle.board.proofs.Replying.{refused-by, taken-by}
-use Rattle.scheduler.specs.Alone.{diaryOf}
-use Rattle.scheduler.specs.Committing.{Line, linesOf, entriesOn, linesRefusal, commitRefusal, bookAll, commitReply}
-use Rattle.scheduler.specs.Committed.{Bookable, Right, Room, passed, room-passed}
+use Rattle.scheduler.specs.Committing.{Line, linesOf, linesRefusal, commitRefusal, bookAll, commitReply}
+use Rattle.scheduler.specs.Committed.{Bookable, Right, Room, allOn, allMetered, allRoomy, passed, room-passed, all-fine}
 use Rattle.scheduler.specs.Lists.{Each}
-use Rattle.scheduler.specs.Tests.{or-left, or-right}
 
 -- a check that the code made, and what it is a check of
 pub check-passed : (r p q : Bool) → r ≡ p → p ≡ q → not r ≡ false → q ≡ true
@@ -26,15 +23,6 @@ check-passed r p q e f h = sym f ∙ sym e ∙ not-false r h
 
 pub check-failed : (r p q : Bool) → r ≡ p → p ≡ q → not r ≡ true → q ≡ false
 check-failed r p q e f h = sym f ∙ sym e ∙ not-true r h
-
-abbrev pub allOn : Board → List Line → Bool
-allOn b ls = every (λ l. onBoard b (l .number)) ls
-
-abbrev pub allMetered : List Line → Bool
-allMetered ls = every (λ l. leb 1 (l .units) && leb (l .units) 10000) ls
-
-abbrev pub allRoomy : Board → List Line → Bool
-allRoomy b ls = every (λ l. leb (diaryOf b (l .number) .len + entriesOn (l .number) ls) 64) ls
 
 module _ (b : Board) (ls : List Line) (start end category : ℕ) where
   pub refused-off : allOn b ls ≡ false → 5 ≡ linesRefusal b ls start end category
@@ -74,24 +62,6 @@ module _ (b : Board) (ls : List Line) (start end category : ℕ) where
               pub refused-none : allRoomy b ls ≡ true → 0 ≡ linesRefusal b ls start end category
               unfolding linesRefusal
               refused-none r = rw (on, le-ltb 15 category c, le-ltb (2 ^ 42) start s, le-ltb (2 ^ 42) end e, lt-leb end start o, u, r) refl
-
-  -- lines that are not refused can be booked
-  pub all-fine : board.valid b ≡ true → (n : ℕ) → n ≡ linesRefusal b ls start end category → n ≡ 0 → Bookable start end category × Each (Right b) ls × Room b ls
-  unfolding linesRefusal
-  all-fine v n q z =
-      let x0 = unrefused (not (allOn b ls) || ltb 15 category) 4 _ (sym q ∙ z) in
-      let x1 = unrefused (ltb (2 ^ 42) start || ltb (2 ^ 42) end) 0 _ (x0 .1) in
-      let x2 = unrefused (leb end start) 1 _ (x1 .1) in
-      let x3 = unrefused (not (allMetered ls)) 2 _ (x2 .1) in
-      let x4 = unrefused (not (allRoomy b ls)) 3 0 (x3 .1) in (
-        record {
-          order = leb-false end start (x2 .0);
-          range = ltb-false (2 ^ 42) end (or-right (ltb (2 ^ 42) start) (ltb (2 ^ 42) end) (x1 .0));
-          category-range = ltb-false 15 category (or-right (not (allOn b ls)) (ltb 15 category) (x0 .0));
-        },
-        passed b ls (not-false (allOn b ls) (or-left (not (allOn b ls)) (ltb 15 category) (x0 .0))) (not-false (allMetered ls) (x3 .0)),
-        room-passed b ls v (not-false (allRoomy b ls) (x4 .0)),
-      )
 
 -- what a commitment that is not refused has: a board that keeps the rules, rows enough, and lines that can be booked
 pub record Fine (b : Board) (slate : List (List ℕ)) (count start end category : ℕ) : Type 0 where
@@ -133,7 +103,7 @@ module _ (b : Board) (slate : List (List ℕ)) (count start end category : ℕ) 
   fine-some : board.valid b ≡ true → eqb count 0 ≡ false → cond (ltb (length slate) count) 7 (linesRefusal b (linesOf count slate) start end category) ≡ 0 → Fine b slate count start end category
   fine-some v some e =
       let x = unrefused (ltb (length slate) count) 6 _ e in
-      let w = all-fine b (linesOf count slate) start end category v 0 (sym (x .1)) refl in
+      let w = all-fine b (linesOf count slate) start end category v (x .1) in
       record {
         valid = v;
         enough = ltb-false (length slate) count (x .0);

@@ -25,7 +25,7 @@ use Rattle.board.proofs.Meaning.{resource-of}
 use Rattle.scheduler.specs.Alone.{diaryOf}
 use Rattle.scheduler.specs.Committing.{Line, lineOf, linesOf, entriesOn, withBooking, lastAfter, booked, bookAll}
 use Rattle.scheduler.specs.Committed.{Bookable, Right, Room, step-long, lookup-after, after-keeps, right-after, room-after}
-use Rattle.scheduler.specs.Lists.{Each, each-on, each-map}
+use Rattle.scheduler.specs.Lists.{Each, each-weaken, each-first, each-rest}
 use Rattle.scheduler.specs.Ruled.{diary-at}
 use Rattle.board.specs.Places.{Known}
 use Rattle.seats.proofs.Knowing.{number-place}
@@ -84,12 +84,6 @@ unfolding linesOf
 lines-none slate i count l =
     let z : count - i ≡ 0 = omega arith in
     rw z refl
-
-each-first : {A : Type 0} (P : A → Type 0) (x : A) (xs : List A) → Each P (x ∷ xs) → P x
-each-first P x xs (each-on p ps) = p
-
-each-rest : {A : Type 0} (P : A → Type 0) (x : A) (xs : List A) → Each P (x ∷ xs) → Each P xs
-each-rest P x xs (each-on p ps) = ps
 
 -- booking the lines left on this board makes the whole
 pub record Ahead (start end category : ℕ) (places : List ℕ) (whole b : Board) (ls : List Line) : Type 0 where
@@ -152,7 +146,7 @@ module _ (start end category : ℕ) (places : List ℕ) (whole b : Board) (l : L
       long = step-long start end category b l (lookup b (l .number)) ∙ a .long;
       valid = after-keeps start end category w b (a .long) (a .valid) l mine has-room;
       known = λ n m. a .known n m ∙ sym (ap placeOf (lookup-after start end category w b (a .long) (a .valid) l mine n));
-      right = each-map (Right b) (Right after) ls (right-after start end category w b (a .long) (a .valid) l mine) (each-rest (Right b) l ls (a .right));
+      right = each-weaken (Right b) (Right after) ls (right-after start end category w b (a .long) (a .valid) l mine) (each-rest (Right b) l ls (a .right));
       room = room-after start end category w b (a .long) (a .valid) l mine ls (a .room);
       same = a .same;
     }

@@ -1,2 +1,2 @@
--- The proofs of the functions.
+-- Booking the lines of a slate, one line more.
 mod Ahead

@@ -4,10 +4,10 @@ use mathlib.Core.Bool.{Bool, true, false, cond}
 use mathlib.Core.List.{List, [], _∷_, _++_, map, append-assoc, append-nil, map-append, map-map}
 use Prim.Native.Nat.{ℕ, _+_, _^_, _≤_, _<_}
 use native.Mathlib.Omega.{arith}
-use lib.ListN.{length, getD, set, take}
-use lib.Seq.{getD-set-same, getD-set-other, length-take-le}
+use lib.ListN.{length, getD, set, take, length-take}
+use lib.Seq.{getD-set-same, getD-set-other, length-take-le, getD-take}
 use mathlib.Core.Logic.{⊎-elim}
-use Rattle.calendar.specs.Search.{greatestOf}
+use Rattle.calendar.specs.Meaning.{greatest-most}
 use Rattle.calendar.specs.Basics.{same-or-not}
 use Rattle.activity.specs.declared.ActivityDuration.{ActivityDuration}
 use Rattle.activity.specs.declared.Activity.{Activity}
@@ -28,13 +28,12 @@ use Rattle.scheduler.specs.Alone.{companionsOf, spanOf}
 use Rattle.scheduler.specs.Choosing.{Held}
 use Rattle.scheduler.specs.Fitting.{numberOf, numbersOf, durationTogether, heldEntry, heldEntries, greatestSetup, joinEach, allCompanions, companionEntry, companionEntries, entriesOf, spanTogether}
 use Rattle.scheduler.specs.Holds.{noHold, heldOf, heldTo, OnPlaces}
-use Rattle.scheduler.specs.Lists.{Each, each-end, each-on}
 use Rattle.entries.specs.declared.Parts.{Parts}
 use Rattle.joining.specs.Cells.{noEntry, numberIn}
 use Rattle.entries.specs.Parts.{keptSetup, setupAt, Taken, Parted}
 use Rattle.plans.specs.declared.Plan.{Plan}
 use Rattle.plans.specs.Plans.{noPlan, planWith}
-use Rattle.scheduler.specs.Arrays.{cells-map, take-next, each-cells}
+use Rattle.scheduler.specs.Arrays.{cells-map, take-next}
 
 companions-last : (hs : List Held) (h : Held) → allCompanions (hs ++ (h ∷ [])) ≡ allCompanions hs ++ companionsOf (h .resource)
 unfolding allCompanions
@@ -98,11 +97,6 @@ module _ (b : Board) (hs : List Hold) where
         cells-map (λ x. heldEntry category own (heldOf b x)) noHold noEntry n hs es l m (λ k i. h k i ∙ rw (d .numbers k i, d .setups k i own) refl)
         ∙ sym (map-map (heldEntry category own) (heldOf b) (take n hs))
 
-greatest-most : (m : ℕ) (es : List Entry) → Each (λ e. e .setup ≤ m) es → greatestSetup es ≤ m
-unfolding greatestSetup greatestOf
-greatest-most m [] each-end = omega arith
-greatest-most m (e ∷ es) (each-on p h) = omega (arith, p, greatest-most m es h)
-
 -- the entries and the span of all held together
 module _ (b : Board) (a : Activity) (hs : List Hold) (n : ℕ) (p : Parts) (d : ActivityDuration) (es : List Entry) (v : valid b ≡ true) (w : Lawful (a .duration) (a .timings)) (c : a .category ≤ 15) (few : n ≤ 8) (wide : length es ≡ 24) (on-places : OnPlaces b hs n) (parts : Parted b (a .category) hs n p) (e : d ≡ durationOn (a .duration) (a .timings) (take n (p .numbers))) (f : (k : ℕ) → k < n → getD es k noEntry ≡ setupAt p hs (d .setup) k) where
   together : d ≡ durationTogether a (heldTo b hs n)
@@ -116,7 +110,8 @@ module _ (b : Board) (a : Activity) (hs : List Hold) (n : ℕ) (p : Parts) (d : 
   duration-small = rw e (duration-bounded (a .duration) (a .timings) (take n (p .numbers)) w (omega (arith, length-take-le n (p .numbers) (omega (arith, parts .long)))))
 
   pub setups-small : greatestSetup (take n es) ≤ 2 ^ 36
-  setups-small = greatest-most (2 ^ 36) (take n es) (each-cells (λ x. x .setup ≤ 2 ^ 36) noEntry n es (λ k l m. each k l))
+  unfolding greatestSetup
+  setups-small = greatest-most (λ (x : Entry). x .setup) noEntry (take n es) (2 ^ 36) (λ k l. let m : k < n = omega (arith, length-take n es) in rw (getD-take n es k noEntry m) (each k m))
     where
       each : (k : ℕ) → k < n → getD es k noEntry .setup ≤ 2 ^ 36
       each k l =

@@ -1,2 +1,2 @@
--- Resumable work on several diaries together.
-pub mod Jointly
+-- What the fitters are given and what they answer.
+pub mod Closing

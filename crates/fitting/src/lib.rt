@@ -7,19 +7,14 @@ use entries::Entries;
 use timeline::ResourceTimeline;
 ghost use mathlib.Core.Path.{_≡_};
 ghost use mathlib.Core.Bool.{true, false};
-ghost use mathlib.Core.List.{_∷_};
-ghost use Prim.Native.Nat.{ℕ, _^_, _≤_, _<_};
-ghost use lib.ListN.{getD, take};
+ghost use Prim.Native.Nat.{_^_, _≤_};
+ghost use lib.ListN.{take};
 ghost use Rattle.calendar.specs.Valid as calendar;
-ghost use Rattle.timeline.specs.Ask as asking;
-ghost use Rattle.board.specs.Resources.{onBoard};
 ghost use Rattle.board.specs.Valid.{valid};
-ghost use Rattle.scheduler.specs.Alone.{earliestOf};
 ghost use Rattle.scheduler.specs.Fitting.{sharesOf};
 ghost use Rattle.scheduler.specs.Owning.{ownShare};
 ghost use Rattle.board.specs.Places.{Known};
-ghost use Rattle.entries.specs.Parts.{noEntry};
-ghost use Rattle.fitting.specs.Jointly.{fitOf};
+ghost use Rattle.fitting.specs.Closing.{EntriesOn, closing, fitOf};
 
 // A start with its end, or none.
 pub enum Fit {
@@ -45,9 +40,8 @@ pub fn fit_unbroken(
     span: u64,
     from: u64,
 ) -> Fit
-    requires { ⌜ (valid b ≡ true) × Known b places × (calendar.valid own ≡ true) × (e .count ≤ 24) × (from ≤ 2 ^ 43) × (span ≤ 2 ^ 53) ⌝ }
-    requires { ⌜ ((k : ℕ) → k < e .count → (onBoard b (getD (e .entries) k noEntry .number) ≡ true) × (1 ≤ getD (e .entries) k noEntry .units)) ⌝ }
-    ensures { λ r. ⌜ fitOf r ≡ asking.unbroken span (earliestOf false span (ownShare own ∷ sharesOf b (take (e .count) (e .entries))) from) ⌝ }
+    requires { ⌜ (valid b ≡ true) × Known b places × (calendar.valid own ≡ true) × EntriesOn b (e .entries) (e .count) × (from ≤ 2 ^ 43) × (span ≤ 2 ^ 53) ⌝ }
+    ensures { λ r. ⌜ fitOf r ≡ closing false (sharesOf b (take (e .count) (e .entries))) own span from ⌝ }
 {
     let first = own_timeline(own);
     let n = e.count + 1;

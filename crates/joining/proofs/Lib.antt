@@ -1,2 +1,2 @@
--- The proofs of the functions.
+-- Companions that join once each.
 mod Joining

@@ -7,8 +7,6 @@ use native.Mathlib.Omega.{arith}
 use lib.ListN.{length, getD, take}
 use lib.Seq.{getD-take, length-take-le}
 use Rattle.calendar.specs.Search.{at}
-use Rattle.timeline.specs.Valid as timeline
-use Rattle.timeline.proofs.Rules as timeline-rules
 use Rattle.activity.specs.declared.ResourceRequirement.{ResourceRequirement}
 use Rattle.activity.specs.declared.Activity.{Activity}
 use Rattle.activity.specs.Check.{requirementsOf, activityRefusal}
@@ -18,37 +16,29 @@ use Rattle.board.specs.Valid.{valid}
 use Rattle.scheduler.specs.declared.Entry.{Entry}
 use Rattle.scheduler.specs.declared.Hold.{Hold}
 use Rattle.scheduler.specs.Choosing.{Held, chosen, choosing}
-use Rattle.scheduler.specs.Fitting.{heldEntries, durationTogether, companionEntry, companionEntries, joinEach, numbersOf, allCompanions, entriesOf}
+use Rattle.scheduler.specs.Fitting.{heldEntry, heldEntries, durationTogether, companionEntry, companionEntries, joinEach, numbersOf, allCompanions, entriesOf}
 use Rattle.scheduler.specs.Holds.{noHold, heldOf, heldTo, OnPlaces}
-use Rattle.scheduler.specs.Lists.{Each, each-end, each-on, each-append}
+use Rattle.scheduler.specs.Lists.{Each, each-all, each-append, each-in-map}
 use Rattle.scheduler.specs.Arrays.{each-at, each-cells}
 use Rattle.scheduler.specs.Chosen.{Chooses}
 use Rattle.scheduler.specs.Plain.{enough, heldAt}
 use Rattle.scheduler.specs.Meaning.{choosing-means, some-of-each}
 use Rattle.scheduler.specs.Reported.{held-at-whole, entries-on}
 use Rattle.entries.specs.Parts.{noEntry}
-use Rattle.placing.specs.Steps.{EntriesOn}
+use Rattle.fitting.specs.Closing.{EntriesOn}
 
 module _ (a : Activity) where
-  held-some : (category setup : ℕ) (hs : List Held) → Each (λ h. 1 ≤ h .usage) hs → Each (λ e. 1 ≤ e .units) (heldEntries category setup hs)
-  held-some category setup [] each-end = each-end
-  held-some category setup (h ∷ hs) (each-on p z) = each-on p (held-some category setup hs z)
-
-  companions-some : (cs : List ℕ) → Each (λ e. 1 ≤ e .units) (map companionEntry cs)
-  companions-some [] = each-end
-  companions-some (c ∷ cs) = each-on {x = companionEntry c} (omega arith) (companions-some cs)
-
   entries-some : (hs : List Held) → Each (λ h. 1 ≤ h .usage) hs → Each (λ e. 1 ≤ e .units) (entriesOf a hs)
   unfolding entriesOf companionEntries
   entries-some hs z =
+      let J = joinEach (numbersOf hs) [] (allCompanions hs) in
       each-append (λ e. 1 ≤ e .units) (heldEntries (a .category) (durationTogether a hs .setup) hs) (companionEntries hs)
-      (held-some (a .category) (durationTogether a hs .setup) hs z)
-      (companions-some (joinEach (numbersOf hs) [] (allCompanions hs)))
+      (each-in-map (λ e. 1 ≤ e .units) (heldEntry (a .category) (durationTogether a hs .setup)) hs z)
+      (each-in-map (λ e. 1 ≤ e .units) companionEntry J (each-all (λ c. 1 ≤ 1) J (λ c. omega arith)))
 
 held-usage : (b : Board) (hs : List Hold) → Each (λ h. 1 ≤ h .usage) hs → Each {A = Held} (λ h. 1 ≤ h .usage) (map (heldOf b) hs)
 unfolding heldOf
-held-usage b [] each-end = each-end
-held-usage b (h ∷ hs) (each-on p z) = each-on p (held-usage b hs z)
+held-usage b hs z = each-in-map (λ h. 1 ≤ h .usage) (heldOf b) hs z
 
 module _ (b : Board) (v : valid b ≡ true) (a : Activity) (ready t : ℕ) (lawful : activityRefusal a ready ≡ 0) (q : ResourceRequirement) (qs : List ResourceRequirement) (asks : requirementsOf a ≡ q ∷ qs) where
   all-on : (hs : List Held) → choosing b a ready ≡ chosen t hs → Each (λ e. onBoard b (e .number) ≡ true) (entriesOf a hs)

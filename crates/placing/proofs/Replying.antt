@@ -22,7 +22,8 @@ use Rattle.calendar.specs.Refusals.{refusedOr, refused-by}
 use Rattle.scheduler.specs.Holds.{heldTo}
 use Rattle.rounds.specs.declared.Choice as code
 use Rattle.rounds.specs.Rounds.{choiceOf}
-use Rattle.placing.specs.Steps.{EntriesOn, orderRefusal}
+use Rattle.fitting.specs.Closing.{EntriesOn}
+use Rattle.placing.specs.Steps.{orderRefusal}
 use Rattle.placing.proofs.Telling.{refusal-off, refusal-15}
 
 -- the order from its release on is not refused either

@@ -2,17 +2,17 @@
 use Prim.Native.Nat.{ℕ, _≤_}
 use mathlib.Core.Path.{_≡_, refl, sym, ap, _∙_, subst}
 use mathlib.Core.Bool.{Bool, true, false}
-use mathlib.Core.List.{List, [], _∷_, map}
+use mathlib.Core.List.{List, map}
 use lib.ListN.{length, getD, take, drop, length-map}
 use lib.Seq.{take-at}
 use lib.Dec.{ltb}
 use Rattle.calendar.specs.Basics.{not-both}
-use Rattle.calendar.specs.Search.{Found, nothing, at}
+use Rattle.calendar.specs.Search.{at}
 use Rattle.activity.specs.declared.Activity.{Activity}
 use Rattle.board.specs.declared.Board.{Board}
 use Rattle.scheduler.specs.declared.Entry.{Entry}
 use Rattle.scheduler.specs.Placing.{Reply, placed, chosenNone, none, refused, placeReply, rowOf, slateAfter, choosingInstant, refusalOf}
-use Rattle.scheduler.specs.Lists.{Each, each-end, each-on}
+use Rattle.scheduler.specs.Lists.{Each, each-of-map}
 use Rattle.scheduler.specs.Alike.{Alike, NoExtra}
 use Rattle.scheduler.specs.Demand3.{Demand3, demand-3}
 use Rattle.placing.specs.declared.Placement.{Placement}
@@ -99,11 +99,6 @@ module _ (b c : Board) (k : Alike b c) (a : Activity) (ready : ℕ) (slate other
   theorem : Demand3 b c a ready slate other
   theorem = demand-3 b c k a ready slate other both
 
-  spared : (es : List Entry) → Each (RowSpared b c) (map rowOf es) → Each (λ x. NoExtra b c (x .number)) es
-  unfolding rowOf
-  spared [] each-end = each-end
-  spared (x ∷ es) (each-on p z) = each-on p (spared es z)
-
   module _ (t s e n : ℕ) (h : r ≡ Placed t s e n) (z : Each (RowSpared b c) (take n after)) where
     known : (es : List Entry) × (placeReply b a ready (length slate) ≡ placed t s e es) × (length es ≡ n)
     known = told-placed (placeReply b a ready (length slate)) t s e n (sym (first .reply) ∙ h)
@@ -118,7 +113,8 @@ module _ (b c : Board) (k : Alike b c) (a : Activity) (ready : ℕ) (slate other
         ∙ take-at (map rowOf es) (drop (length es) slate) n (length-map es rowOf ∙ known .2)
 
     free : Each (λ x. NoExtra b c (x .number)) es
-    free = spared es (subst (Each (RowSpared b c)) written z)
+    unfolding rowOf
+    free = each-of-map (RowSpared b c) rowOf es (subst (Each (RowSpared b c)) written z)
 
     placement : q ≡ Placed t s e n
     unfolding told

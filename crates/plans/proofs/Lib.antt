@@ -1,2 +1,2 @@
--- The proofs of the functions.
+-- Durations and arrivals in range.
 pub mod Planning

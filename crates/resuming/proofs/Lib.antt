@@ -1,4 +1,3 @@
 -- The proofs of fitting resumable work.
-mod Gathering
 mod Resuming
 mod Walking

@@ -1,22 +1,18 @@
 -- Resumable work on several diaries together: the search from event to event finds the least start.
-use mathlib.Core.Path.{_≡_, refl, sym, ap, _∙_}
+use mathlib.Core.Path.{_≡_, refl, sym}
 use mathlib.Core.Bool.{Bool, true, false, cond}
 use mathlib.Core.List.{List, map}
-use Prim.Native.Nat.{ℕ, suc, _-_, _^_, _≤_, _<_}
+use Prim.Native.Nat.{ℕ, suc, _^_, _≤_, _<_}
 use native.Mathlib.Omega.{arith}
-use Rattle.calendar.specs.Basics.{not-both}
 use Rattle.calendar.specs.Search.{Found, nothing, at}
-use Rattle.calendar.specs.Work.{joint, lastChange, jointEnd}
-use Rattle.calendar.specs.Meaning.{joint-changeless, joint-end-found, work-end-back, not-at}
-use Rattle.timeline.specs.Ask as asking
+use Rattle.calendar.specs.Work.{joint, jointEnd}
+use Rattle.calendar.specs.Meaning.{not-at}
 use Rattle.timeline.proofs.Searching.{Sought, sought-on, sought-found, sought-none}
 use Rattle.scheduler.specs.Alone.{Share, lastOf}
 use Rattle.scheduler.specs.Fitting.{calendarOf, allFree, freeToEnd}
 use Rattle.scheduler.specs.Together.{Sound, Calm, last-calm}
 use Rattle.scheduler.specs.Latest.{last-small}
-use Rattle.scheduler.specs.Closing.{joint-back, all-free-back}
-use Rattle.scheduler.specs.Owning.{suitsOn}
-use Rattle.fitting.specs.Jointly.{jointly, ended}
+use Rattle.scheduler.specs.Owning.{suitsOn, suits-on-back, leastOn}
 
 -- the joint end, where all are free up to it
 unfoldable pub endFree : List Share → ℕ → Found → Found
@@ -49,35 +45,28 @@ module _ (ys : List Share) (s : ℕ) (f : Found) where
       go nothing k = refl
       go (at d) k = free d (allFree ys s d) refl k
 
-jointly-back : (ys : List Share) (work y : ℕ) → Calm (suc y) ys → suitsOn true ys work (suc y) ≡ true → suitsOn true ys work y ≡ true
-unfolding suitsOn freeToEnd
-jointly-back ys work y calm h = go (jointEnd (map calendarOf ys) (suc y) work) refl h
-  where
-    go : (f : Found) → jointEnd (map calendarOf ys) (suc y) work ≡ f → freeToEnd ys (suc y) f ≡ true → freeToEnd ys y (jointEnd (map calendarOf ys) y work) ≡ true
-    go nothing e g = absurd (not-both false g refl)
-    go (at d) e g =
-        let here = joint-back ys y calm (joint-end-found (map calendarOf ys) (suc y) work d e .0) in
-        let r = work-end-back (lastChange (map calendarOf ys)) (joint (map calendarOf ys)) y work d (joint-changeless (map calendarOf ys)) here e in
-        rw (r .1) (all-free-back ys y (r .0) d calm (r .2) g)
+-- the least start of the work, with its end
+pub record Least (ys : List Share) (work from s e : ℕ) : Type 0 where
+  pub start : leastOn true ys work from ≡ at s
+  pub end : jointEnd (map calendarOf ys) s work ≡ at e
 
 module _ (ys : List Share) (sound : Sound ys) (work from : ℕ) where
   abbrev P : ℕ → Bool
   P x = suitsOn true ys work x
 
-  -- a start that the search finds is the definition's, and its end is the joint end
-  pub found : (x e : ℕ) → Sought P from x → endFree ys x (jointEnd (map calendarOf ys) x work) ≡ at e → asking.fit x e ≡ ended ys work (jointly ys work from)
-  unfolding jointly ended suitsOn asking.ended
+  -- a start that the search finds is the least
+  pub found : (x e : ℕ) → Sought P from x → endFree ys x (jointEnd (map calendarOf ys) x work) ≡ at e → Least ys work from x e
+  unfolding leastOn suitsOn
   found x e s h =
       let w = end-found ys x (jointEnd (map calendarOf ys) x work) e h in
-      let k = sought-found P from (lastOf ys) (λ y l. jointly-back ys work y (last-calm ys sound y l)) x s (w .1) in
-      sym (ap (ended ys work) k ∙ ap (asking.ended x) (w .0))
+      record { start = sought-found P from (lastOf ys) (λ y l. suits-on-back true ys work y (last-calm ys sound y l)) x s (w .1); end = w .0 }
 
   -- the search goes on to the next event
   pub onward : (x r : ℕ) → Sought P from x → endFree ys x (jointEnd (map calendarOf ys) x work) ≡ nothing → x < r → ((y : ℕ) → x ≤ y → suc y < r → Calm (suc y) ys) → Sought P from r
   unfolding suitsOn
-  onward x r s h l calm = sought-on P from x r s (end-free ys x (jointEnd (map calendarOf ys) x work) h) l (λ y a b. jointly-back ys work y (calm y a b))
+  onward x r s h l calm = sought-on P from x r s (end-free ys x (jointEnd (map calendarOf ys) x work) h) l (λ y a b. suits-on-back true ys work y (calm y a b))
 
   -- and past all events there is nothing
-  pub over : (x : ℕ) → from ≤ 2 ^ 43 → 2 ^ 63 ≤ x → Sought P from x → asking.none ≡ ended ys work (jointly ys work from)
-  unfolding jointly ended
-  over x f l s = sym (ap (ended ys work) (sought-none P from (lastOf ys) x s (omega (arith, last-small ys sound))))
+  pub over : (x : ℕ) → from ≤ 2 ^ 43 → 2 ^ 63 ≤ x → Sought P from x → leastOn true ys work from ≡ nothing
+  unfolding leastOn
+  over x f l s = sought-none P from (lastOf ys) x s (omega (arith, last-small ys sound))

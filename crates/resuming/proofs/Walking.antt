@@ -6,12 +6,12 @@ use mathlib.Core.Logic.{_⊎_, inl, inr, ⊎-elim}
 use Prim.Native.Nat.{ℕ, zero, suc, _+_, _-_, _*_, _^_, _≤_, _<_}
 use native.Mathlib.Omega.{arith}
 use lib.ListN.{length, getD, set, take, length-set}
-use lib.Seq.{getD-set-same, getD-set-other}
+use lib.Seq.{take-all, getD-set-same, getD-set-other}
 use lib.Dec.{leb, ltb, eqb}
 use borrow.Author.Tests.{le-leb, lt-ltb, ltb-true, eq-eqb}
-use Rattle.calendar.specs.Every.{every}
+use Rattle.calendar.specs.Every.{every, every-append}
 use Rattle.calendar.specs.declared.Calendar.{Calendar}
-use Rattle.calendar.specs.Basics.{not-both, same-or-not}
+use Rattle.calendar.specs.Basics.{and-true, not-both, same-or-not}
 use Rattle.calendar.specs.Search.{Found, nothing, at, when}
 use Rattle.calendar.specs.Meaning.{not-at}
 use Rattle.calendar.specs.Work.{joint, jointEnd, workEnd}
@@ -20,25 +20,23 @@ use Rattle.work_ends.specs.Layout.{Layout, laid, lastCell}
 use Rattle.joint.specs.Layout.{Ruled, blank}
 use Rattle.joint.proofs.Ending.{layout-end}
 use Rattle.timeline.specs.declared.ResourceTimeline.{ResourceTimeline}
-use Rattle.timeline.specs.Ask as asking
+use Rattle.timeline.specs.Valid.{valid}
 use Rattle.timeline.specs.Earliest.{freeOn}
 use Rattle.timeline.proofs.Rules.{rules}
 use Rattle.timeline.proofs.Searching.{Sought, sought-start}
 use Rattle.timeline.proofs.Stepping.{Still}
-use Rattle.board.specs.Resources.{noDiary}
 use Rattle.scheduler.specs.Alone.{Share}
 use Rattle.scheduler.specs.Fitting.{among, calendarOf, allFree}
-use Rattle.scheduler.specs.Shares.{shareAt, sharesTo, timelinesOf, Wanted}
+use Rattle.scheduler.specs.Shares.{noShare}
+use Rattle.scheduler.specs.Lists.{each-end, each-on, each-append}
+use Rattle.scheduler.specs.Arrays.{each-at, cells-map, take-next}
 use Rattle.scheduler.specs.Tests.{or-in-left, or-in-right}
 use Rattle.scheduler.specs.Events.{events, eventsOf, among-append, above, above-falls}
 use Rattle.scheduler.specs.Asking.{event-among}
 use Rattle.candidates.specs.Steps.{Listed, Event}
-use Rattle.scheduler.specs.Latest.{wanted-sound}
-use Rattle.scheduler.specs.Together.{Calm}
-use Rattle.scheduler.specs.Owning.{suitsOn}
-use Rattle.fitting.specs.Jointly.{jointly, ended}
-use Rattle.resuming.proofs.Gathering.{shares-next, free-more, calm-on, calm-none, calendars-are}
-use Rattle.resuming.proofs.Resuming.{endFree, found, onward, over}
+use Rattle.scheduler.specs.Together.{Sound, Calm}
+use Rattle.scheduler.specs.Owning.{suitsOn, leastOn}
+use Rattle.resuming.proofs.Resuming.{endFree, Least, found, onward, over}
 
 -- an end, where there is one
 abbrev pub endIf : Bool → ℕ → Found
@@ -51,6 +49,10 @@ end-none-asked s nothing = refl
 end-none-asked s (at e) = refl
 
 -- one diary more
+free-more : (xs : List Share) (x : Share) (s e : ℕ) → allFree (xs ++ (x ∷ [])) s e ≡ allFree xs s e && freeOn (x .timeline) (x .units) s e
+unfolding allFree every
+free-more xs x s e = every-append (λ (y : Share). freeOn (y .timeline) (y .units) s e) xs (x ∷ []) ∙ ap (λ (p : Bool). allFree xs s e && p) (and-true (freeOn (x .timeline) (x .units) s e))
+
 end-more : (xs : List Share) (x : Share) (s e : ℕ) (free : Bool) (f : Found) → endIf free e ≡ endFree xs s f → endIf (free && freeOn (x .timeline) (x .units) s e) e ≡ endFree (xs ++ (x ∷ [])) s f
 unfolding endFree when
 end-more xs x s e true nothing h = absurd (not-at e (sym h))
@@ -65,37 +67,34 @@ end-more xs x s e free (at d) h = go free (allFree xs s d) refl h
     go false true k j = absurd (not-at d j)
     go false false k j = rw (free-more xs x s d, k) refl
 
-module _ (ts : List ResourceTimeline) (us : List ℕ) (n work from : ℕ) (stops : List ℕ) where
-  abbrev pub all : List Share
-  all = sharesTo ts us n
-
+module _ (xs : List Share) (n work from : ℕ) (stops : List ℕ) where
   abbrev pub end-from : ℕ → Found
-  end-from x = jointEnd (map calendarOf all) x work
+  end-from x = jointEnd (map calendarOf xs) x work
 
   -- the first i are asked at `here`
   pub record Tried (here end : ℕ) (free : Bool) (next i : ℕ) : Type 0 where
-    pub ends : endIf free end ≡ endFree (sharesTo ts us i) here (end-from here)
+    pub ends : endIf free end ≡ endFree (take i xs) here (end-from here)
     pub later : here < next
     pub listed : (next ≡ 2 ^ 63) ⊎ (among next stops ≡ true)
     pub most : next ≤ 2 ^ 63
-    pub calm : (y : ℕ) → here ≤ y → suc y < next → Calm (suc y) (sharesTo ts us i)
+    pub calm : (y : ℕ) → here ≤ y → suc y < next → Calm (suc y) (take i xs)
 
   -- the joint time is not laid out yet, and the calendars of the first i are gathered
   pub record Gathers (cs : List Calendar) (here : ℕ) (free : Bool) (next i : ℕ) : Type 0 where
     pub start : here ≡ from
     pub begin : next ≡ from
     pub none : free ≡ false
-    pub cells : (k : ℕ) → k < i → getD cs k blank ≡ getD ts k noDiary .calendar
+    pub cells : (k : ℕ) → k < i → getD cs k blank ≡ getD xs k noShare .timeline .calendar
 
   -- it is laid out, and nothing suits before `here`
   pub record Walks (edges : List ℕ) (len here end : ℕ) (free : Bool) (next i : ℕ) : Type 0 where
     pub short : len ≤ 3201
-    pub layout : Layout (λ p. leb from p && joint (map calendarOf all) p) edges len
-    pub sought : Sought (suitsOn true all work) from here
+    pub layout : Layout (λ p. leb from p && joint (map calendarOf xs) p) edges len
+    pub sought : Sought (suitsOn true xs work) from here
     pub tried : here < 2 ^ 63 → Tried here end free next i
 
   -- one calendar more
-  pub gathers-next : (cs : List Calendar) (here : ℕ) (free : Bool) (next i : ℕ) → Gathers cs here free next i → i < length cs → Gathers (set cs i (getD ts i noDiary .calendar)) here free next (i + 1)
+  pub gathers-next : (cs : List Calendar) (here : ℕ) (free : Bool) (next i : ℕ) → Gathers cs here free next i → i < length cs → Gathers (set cs i (getD xs i noShare .timeline .calendar)) here free next (i + 1)
   gathers-next cs here free next i g l = record {
     start = g .start;
     begin = g .begin;
@@ -107,65 +106,68 @@ module _ (ts : List ResourceTimeline) (us : List ℕ) (n work from : ℕ) (stops
         (same-or-not i k);
   }
 
-  module _ (wanted : Wanted ts us n) where
+  module _ (sound : Sound xs) (long : length xs ≡ n) where
     -- all calendars keep the rules, and are those of all diaries
     pub gathers-ruled : (cs : List Calendar) (here : ℕ) (free : Bool) (next i : ℕ) → Gathers cs here free next i → n ≤ i → Ruled cs n
-    gathers-ruled cs here free next i g l k h = ap calendar.valid (g .cells k (omega arith)) ∙ rules _ (wanted .kept k h) .calendar
+    gathers-ruled cs here free next i g l k h = ap calendar.valid (g .cells k (omega arith)) ∙ rules _ (each-at (λ x. valid (x .timeline) ≡ true) noShare xs sound k (omega (arith, long))) .calendar
 
-    pub gathers-all : (cs : List Calendar) (here : ℕ) (free : Bool) (next i : ℕ) → Gathers cs here free next i → n ≤ i → n ≤ length cs → take n cs ≡ map calendarOf all
-    gathers-all cs here free next i g l m = calendars-are cs ts us n m (λ k h. g .cells k (omega arith))
+    pub gathers-all : (cs : List Calendar) (here : ℕ) (free : Bool) (next i : ℕ) → Gathers cs here free next i → n ≤ i → n ≤ length cs → take n cs ≡ map calendarOf xs
+    gathers-all cs here free next i g l m = cells-map calendarOf noShare blank n xs cs (omega (arith, long)) m (λ k h. g .cells k (omega arith)) ∙ ap (map calendarOf) (take-all n xs (omega (arith, long)))
 
     -- an instant to try, with no diary asked
-    pub walks-begin : (edges : List ℕ) (len here end : ℕ) (free : Bool) → len ≤ 3201 → Layout (λ p. leb from p && joint (map calendarOf all) p) edges len → Sought (suitsOn true all work) from here
+    pub walks-begin : (edges : List ℕ) (len here end : ℕ) (free : Bool) → len ≤ 3201 → Layout (λ p. leb from p && joint (map calendarOf xs) p) edges len → Sought (suitsOn true xs work) from here
         → (here < 2 ^ 63 → endIf free end ≡ workEnd (lastCell edges len) (laid edges len) here work) → Walks edges len here end free (2 ^ 63) 0
-    unfolding sharesTo
     walks-begin edges len here end free short y s e = record {
       short = short;
       layout = y;
       sought = s;
       tried = λ l. record {
-        ends = e l ∙ layout-end (map calendarOf all) (λ p. leb from p && joint (map calendarOf all) p) edges len here work y (λ p h. rw (le-leb from p (omega (arith, s .low))) refl) ∙ end-none-asked here (end-from here);
+        ends = e l ∙ layout-end (map calendarOf xs) (λ p. leb from p && joint (map calendarOf xs) p) edges len here work y (λ p h. rw (le-leb from p (omega (arith, s .low))) refl) ∙ end-none-asked here (end-from here);
         later = l;
         listed = inl refl;
         most = omega arith;
-        calm = λ z a b. calm-none ts us (suc z);
+        calm = λ z a b. each-end;
       };
     }
 
     -- one diary more asked
-    pub walks-next : (edges : List ℕ) (len here end : ℕ) (free : Bool) (next i : ℕ) → Walks edges len here end free next i → here < 2 ^ 63 → (later : ℕ) → here < later → later ≤ next → (later ≡ next) ⊎ (among later stops ≡ true)
-        → ((y : ℕ) → here ≤ y → suc y < later → Still (getD ts i noDiary) (suc y)) → Walks edges len here end (free && freeOn (getD ts i noDiary) (getD us i 0) here end) later (i + 1)
-    walks-next edges len here end free next i w l later a b on still =
+    pub walks-next : (edges : List ℕ) (len here end : ℕ) (free : Bool) (next i : ℕ) → i < n → Walks edges len here end free next i → here < 2 ^ 63 → (later : ℕ) → here < later → later ≤ next → (later ≡ next) ⊎ (among later stops ≡ true)
+        → ((y : ℕ) → here ≤ y → suc y < later → Still (getD xs i noShare .timeline) (suc y)) → Walks edges len here end (free && freeOn (getD xs i noShare .timeline) (getD xs i noShare .units) here end) later (i + 1)
+    walks-next edges len here end free next i m w l later a b on still =
         let t = w .tried l in
+        let more = take-next xs i noShare (omega (arith, long)) in
         record {
           short = w .short;
           layout = w .layout;
           sought = w .sought;
-          tried = λ m. record {
-            ends = end-more (sharesTo ts us i) (shareAt ts us i) here end free (end-from here) (t .ends) ∙ ap (λ (xs : List Share). endFree xs here (end-from here)) (sym (shares-next ts us i));
+          tried = λ z. record {
+            ends = end-more (take i xs) (getD xs i noShare) here end free (end-from here) (t .ends) ∙ ap (λ (ys : List Share). endFree ys here (end-from here)) (sym more);
             later = a;
             listed = ⊎-elim (λ (z : later ≡ next). rw z (t .listed)) inr on;
             most = omega (arith, t .most);
-            calm = λ y p q. calm-on ts us i (suc y) (t .calm y p (omega arith)) (still y p q);
+            calm = λ y p q. subst (Calm (suc y)) (sym more) (each-append (λ x. Still (x .timeline) (suc y)) (take i xs) (getD xs i noShare ∷ []) (t .calm y p (omega arith)) (each-on (still y p q) each-end));
           };
         }
 
     module _ (edges : List ℕ) (len here end : ℕ) (free : Bool) (next i : ℕ) (w : Walks edges len here end free next i) (l : here < 2 ^ 63) (z : i ≡ n) where
-      ends-all : endIf free end ≡ endFree all here (end-from here)
-      ends-all = rw z at (w .tried l .ends)
+      whole : take i xs ≡ xs
+      whole = take-all i xs (omega (arith, z, long))
+
+      ends-all : endIf free end ≡ endFree xs here (end-from here)
+      ends-all = w .tried l .ends ∙ ap (λ (ys : List Share). endFree ys here (end-from here)) whole
 
       -- all are free: the least start
-      pub walks-found : free ≡ true → asking.fit here end ≡ ended all work (jointly all work from)
-      walks-found e = found all (wanted-sound ts us n wanted) work from here end (w .sought) (sym ends-all ∙ rw e refl)
+      pub walks-found : free ≡ true → Least xs work from here end
+      walks-found e = found xs sound work from here end (w .sought) (sym ends-all ∙ rw e refl)
 
       -- one is not: the search goes on at the next instant
-      pub walks-on : free ≡ false → Sought (suitsOn true all work) from next
+      pub walks-on : free ≡ false → Sought (suitsOn true xs work) from next
       walks-on e =
-          onward all (wanted-sound ts us n wanted) work from here next (w .sought) (sym ends-all ∙ rw e refl) (w .tried l .later)
-          (λ y a b. subst (λ (k : ℕ). Calm (suc y) (sharesTo ts us k)) z (w .tried l .calm y a b))
+          onward xs sound work from here next (w .sought) (sym ends-all ∙ rw e refl) (w .tried l .later)
+          (λ y a b. subst (Calm (suc y)) whole (w .tried l .calm y a b))
 
-    pub walks-over : (edges : List ℕ) (len here end : ℕ) (free : Bool) (next i : ℕ) → Walks edges len here end free next i → from ≤ 2 ^ 43 → 2 ^ 63 ≤ here → asking.none ≡ ended all work (jointly all work from)
-    walks-over edges len here end free next i w f l = over all (wanted-sound ts us n wanted) work from here f l (w .sought)
+    pub walks-over : (edges : List ℕ) (len here end : ℕ) (free : Bool) (next i : ℕ) → Walks edges len here end free next i → from ≤ 2 ^ 43 → 2 ^ 63 ≤ here → leastOn true xs work from ≡ nothing
+    walks-over edges len here end free next i w f l = over xs sound work from here f l (w .sought)
 
   -- the walk at the i-th diary: the calendars are gathered, then instants are tried
   pub record State (cs : List Calendar) (edges : List ℕ) (len here end : ℕ) (free : Bool) (next : ℕ) (laid : Bool) (i : ℕ) : Type 0 where
@@ -188,7 +190,7 @@ module _ (ts : List ResourceTimeline) (us : List ℕ) (n work from : ℕ) (stops
   }
 
   module _ (cs : List Calendar) (edges : List ℕ) (len here end : ℕ) (free : Bool) (next : ℕ) (laid : Bool) (i : ℕ) (s : State cs edges len here end free next laid i) (l : i < n) where
-    pub state-cell : laid ≡ false → n ≤ 25 → (c : Calendar) → c ≡ getD ts i noDiary .calendar → State (set cs i c) edges len here end free next laid (i + 1)
+    pub state-cell : laid ≡ false → n ≤ 25 → (c : Calendar) → c ≡ getD xs i noShare .timeline .calendar → State (set cs i c) edges len here end free next laid (i + 1)
     state-cell e m c z = record {
       few = omega arith;
       cells = length-set cs i c ∙ s .cells;
@@ -198,34 +200,34 @@ module _ (ts : List ResourceTimeline) (us : List ℕ) (n work from : ℕ) (stops
       walks = λ f. absurd (not-both laid f e);
     }
 
-    pub state-asked : Wanted ts us n → laid ≡ true → here < 2 ^ 63 → (x y : ℕ) (p : Bool) (z : ℕ) (q : Bool) (d : ResourceTimeline) (u : ℕ) → d ≡ getD ts i noDiary → u ≡ getD us i 0 → x ≡ here → y ≡ end → q ≡ laid
+    pub state-asked : Sound xs → length xs ≡ n → laid ≡ true → here < 2 ^ 63 → (x y : ℕ) (p : Bool) (z : ℕ) (q : Bool) (d : ResourceTimeline) (u : ℕ) → d ≡ getD xs i noShare .timeline → u ≡ getD xs i noShare .units → x ≡ here → y ≡ end → q ≡ laid
         → p ≡ free && freeOn d u here end → here < z → z ≤ next → (z ≡ next) ⊎ (among z stops ≡ true) → ((t : ℕ) → here ≤ t → suc t < z → Still d (suc t)) → State cs edges len x y p z q (i + 1)
-    state-asked wanted e h x y p z q d u a b ex ey eq ep m k on still = record {
+    state-asked sound long e h x y p z q d u a b ex ey eq ep m k on still = record {
       few = omega arith;
       cells = s .cells;
       wide = s .wide;
       most = omega (arith, s .most);
       gathers = λ f. absurd (not-both laid e (sym eq ∙ f));
-      walks = λ f. rw (ex, ey, ep, a, b) (walks-next wanted edges len here end free next i (s .walks e) h z m k on (λ t g j. subst (λ (r : ResourceTimeline). Still r (suc t)) a (still t g j)));
+      walks = λ f. rw (ex, ey, ep, a, b) (walks-next sound long edges len here end free next i l (s .walks e) h z m k on (λ t g j. subst (λ (r : ResourceTimeline). Still r (suc t)) a (still t g j)));
     }
 
   -- what is laid out, and where the next trial begins
   pub record Onward (edges : List ℕ) (len next : ℕ) : Type 0 where
     pub wide : length edges ≡ 3201
     pub short : len ≤ 3201
-    pub layout : Layout (λ p. leb from p && joint (map calendarOf all) p) edges len
-    pub sought : Sought (suitsOn true all work) from next
+    pub layout : Layout (λ p. leb from p && joint (map calendarOf xs) p) edges len
+    pub sought : Sought (suitsOn true xs work) from next
     pub most : next ≤ 2 ^ 63
 
-  module _ (wanted : Wanted ts us n) (cs : List Calendar) (edges : List ℕ) (len here end : ℕ) (free : Bool) (next : ℕ) (laid : Bool) (i : ℕ) (s : State cs edges len here end free next laid i) (l : n ≤ i) where
+  module _ (sound : Sound xs) (long : length xs ≡ n) (cs : List Calendar) (edges : List ℕ) (len here end : ℕ) (free : Bool) (next : ℕ) (laid : Bool) (i : ℕ) (s : State cs edges len here end free next laid i) (l : n ≤ i) where
     -- the joint time laid out
-    pub onward-laid : laid ≡ false → from ≤ 2 ^ 43 → n ≤ 25 → (xs : List ℕ) (m : ℕ) → length xs ≡ 3201 → m ≤ 3201 → Layout (λ p. leb from p && joint (take n cs) p) xs m → Onward xs m next
-    onward-laid e r few xs m wide short y =
+    pub onward-laid : laid ≡ false → from ≤ 2 ^ 43 → n ≤ 25 → (es : List ℕ) (m : ℕ) → length es ≡ 3201 → m ≤ 3201 → Layout (λ p. leb from p && joint (take n cs) p) es m → Onward es m next
+    onward-laid e r few es m wide short y =
         let g = s .gathers e in
         record {
           wide = wide;
           short = short;
-          layout = subst (λ (zs : List Calendar). Layout (λ p. leb from p && joint zs p) xs m) (gathers-all wanted cs here free next i g l (omega (arith, s .cells))) y;
+          layout = subst (λ (zs : List Calendar). Layout (λ p. leb from p && joint zs p) es m) (gathers-all sound long cs here free next i g l (omega (arith, s .cells))) y;
           sought = rw (g .begin) (sought-start _ from);
           most = omega (arith, g .begin);
         }
@@ -239,34 +241,34 @@ module _ (ts : List ResourceTimeline) (us : List ℕ) (n work from : ℕ) (stops
           wide = s .wide;
           short = w .short;
           layout = w .layout;
-          sought = walks-on wanted edges len here end free next i w h z f;
+          sought = walks-on sound long edges len here end free next i w h z f;
           most = w .tried h .most;
         }
 
     -- an instant that suits: it was tried
-    pub state-found : free ≡ true → here < 2 ^ 63 → asking.fit here end ≡ ended all work (jointly all work from)
+    pub state-found : free ≡ true → here < 2 ^ 63 → Least xs work from here end
     state-found f h = go laid refl
       where
-        go : (q : Bool) → laid ≡ q → asking.fit here end ≡ ended all work (jointly all work from)
-        go true e = let z : i ≡ n = omega (arith, s .few) in walks-found wanted edges len here end free next i (s .walks e) h z f
+        go : (q : Bool) → laid ≡ q → Least xs work from here end
+        go true e = let z : i ≡ n = omega (arith, s .few) in walks-found sound long edges len here end free next i (s .walks e) h z f
         go false e = absurd (not-both free f (s .gathers e .none))
 
-  pub state-over : Wanted ts us n → (cs : List Calendar) (edges : List ℕ) (len here end : ℕ) (free : Bool) (next : ℕ) (laid : Bool) (i : ℕ) → State cs edges len here end free next laid i → from ≤ 2 ^ 43 → 2 ^ 63 ≤ here → asking.none ≡ ended all work (jointly all work from)
-  state-over wanted cs edges len here end free next laid i s f l = go laid refl
+  pub state-over : Sound xs → length xs ≡ n → (cs : List Calendar) (edges : List ℕ) (len here end : ℕ) (free : Bool) (next : ℕ) (laid : Bool) (i : ℕ) → State cs edges len here end free next laid i → from ≤ 2 ^ 43 → 2 ^ 63 ≤ here → leastOn true xs work from ≡ nothing
+  state-over sound long cs edges len here end free next laid i s f l = go laid refl
     where
-      go : (q : Bool) → laid ≡ q → asking.none ≡ ended all work (jointly all work from)
-      go true e = walks-over wanted edges len here end free next i (s .walks e) f l
+      go : (q : Bool) → laid ≡ q → leastOn true xs work from ≡ nothing
+      go true e = walks-over sound long edges len here end free next i (s .walks e) f l
       go false e = absurd (omega (arith, s .gathers e .start))
 
-  pub state-begun : Wanted ts us n → (cs : List Calendar) (edges : List ℕ) (len next : ℕ) → length cs ≡ 25 → Onward edges len next → (x y : ℕ) (p : Bool) (z : ℕ) (q : Bool) → x ≡ next → z ≡ 2 ^ 63 → q ≡ true
+  pub state-begun : Sound xs → length xs ≡ n → (cs : List Calendar) (edges : List ℕ) (len next : ℕ) → length cs ≡ 25 → Onward edges len next → (x y : ℕ) (p : Bool) (z : ℕ) (q : Bool) → x ≡ next → z ≡ 2 ^ 63 → q ≡ true
       → (next < 2 ^ 63 → endIf p y ≡ workEnd (lastCell edges len) (laid edges len) next work) → State cs edges len x y p z q 0
-  state-begun wanted cs edges len next cells o x y p z q ex ez eq ends = record {
+  state-begun sound long cs edges len next cells o x y p z q ex ez eq ends = record {
     few = omega arith;
     cells = cells;
     wide = o .wide;
     most = omega (arith, o .most);
     gathers = λ f. absurd (not-both q eq f);
-    walks = λ f. rw (ex, ez) (walks-begin wanted edges len next y p (o .short) (o .layout) (o .sought) ends);
+    walks = λ f. rw (ex, ez) (walks-begin sound long edges len next y p (o .short) (o .layout) (o .sought) ends);
   }
 
 -- the instants left, the one at hand with them
@@ -295,7 +297,7 @@ module _ (stops : List ℕ) where
   pub left-on : (x here : ℕ) (q laid : Bool) (n i : ℕ) → here < x → x ≤ 2 ^ 63 → (x ≡ 2 ^ 63) ⊎ (among x stops ≡ true) → q ≡ true → laid ≡ true → n ≤ 25 → left stops x q n 0 < left stops here laid n i
   left-on x here q laid n i a m on b c l = rw (b, c) (omega (arith, remaining-falls stops here x a m on))
 
--- an event on the i-th diary is one of all
+-- an instant that a list of cells holds is among them
 listed-in : (xs : List ℕ) (n y : ℕ) → 1 ≤ y → Listed xs n y → among y (take n xs) ≡ true
 unfolding among
 listed-in [] n y l w = absurd (omega (arith, w .2))
@@ -303,7 +305,8 @@ listed-in (x ∷ xs) zero y l w = absurd (omega (arith, w .1))
 listed-in (x ∷ xs) (suc n) y l (zero, m, e) = or-in-left (eqb x y) (among y (take n xs)) (eq-eqb x y e)
 listed-in (x ∷ xs) (suc n) y l (suc k, m, e) = or-in-right (eqb x y) (among y (take n xs)) (listed-in xs n y l (k, omega arith, e))
 
-pub event-stop : (xs : List Share) (i x : ℕ) (d : ResourceTimeline) → d ≡ getD (timelinesOf xs) i noDiary → 1 ≤ x → Event d x → among x (eventsOf xs) ≡ true
+-- an event on the i-th diary is one of all
+pub event-stop : (xs : List Share) (i x : ℕ) (d : ResourceTimeline) → d ≡ getD xs i noShare .timeline → 1 ≤ x → Event d x → among x (eventsOf xs) ≡ true
 unfolding events
 event-stop xs i x d e l on = event-among xs i x (ap (λ (y : ResourceTimeline). among x (events y)) (sym e) ∙ among-append x W (B ++ C) ∙ ⊎-elim
     (λ (z : Listed (d .calendar .windows .starts) (d .calendar .windows .len) x). or-in-left (among x W) (among x (B ++ C)) (listed-in (d .calendar .windows .starts) (d .calendar .windows .len) x l z))

@@ -9,10 +9,9 @@ use joint::WorkEnd;
 use timeline::ResourceTimeline;
 ghost use mathlib.Core.Path.{_≡_};
 ghost use mathlib.Core.Bool.{true, false, _&&_, cond};
-ghost use mathlib.Core.List.{_∷_};
 ghost use mathlib.Core.Logic.{_⊎_};
 ghost use Prim.Native.Nat.{ℕ, suc, _^_, _≤_, _<_};
-ghost use lib.ListN.{length, getD, take};
+ghost use lib.ListN.{length, take};
 ghost use Rattle.calendar.specs.Search.{nothing, at};
 ghost use Rattle.calendar.specs.Valid as calendar;
 ghost use Rattle.calendar.specs.Work.{workEnd};
@@ -21,13 +20,10 @@ ghost use Rattle.timeline.specs.Valid as timeline;
 ghost use Rattle.timeline.specs.Earliest.{freeOn};
 ghost use Rattle.timeline.proofs.Stepping.{Still};
 ghost use Rattle.candidates.specs.Steps.{Event};
-ghost use Rattle.board.specs.Resources.{onBoard};
 ghost use Rattle.board.specs.Valid.{valid};
 ghost use Rattle.scheduler.specs.Fitting.{sharesOf};
-ghost use Rattle.scheduler.specs.Owning.{ownShare};
 ghost use Rattle.board.specs.Places.{Known};
-ghost use Rattle.entries.specs.Parts.{noEntry};
-ghost use Rattle.fitting.specs.Jointly.{fitOf, jointly, ended};
+ghost use Rattle.fitting.specs.Closing.{EntriesOn, closing, fitOf};
 
 // An instant tried: the joint end of the work from it, whether all diaries asked so far are free up to that, and the next instant at
 // which something can first start on one of them; not laid while the joint time is not laid out yet.
@@ -96,9 +92,8 @@ pub fn fit_resumable(
     work: u64,
     from: u64,
 ) -> Fit
-    requires { ⌜ (valid b ≡ true) × Known b places × (calendar.valid own ≡ true) × (e .count ≤ 24) × (from ≤ 2 ^ 43) × (work ≤ 2 ^ 53) ⌝ }
-    requires { ⌜ ((k : ℕ) → k < e .count → (onBoard b (getD (e .entries) k noEntry .number) ≡ true) × (1 ≤ getD (e .entries) k noEntry .units)) ⌝ }
-    ensures { λ r. ⌜ fitOf r ≡ ended (ownShare own ∷ sharesOf b (take (e .count) (e .entries))) work (jointly (ownShare own ∷ sharesOf b (take (e .count) (e .entries))) work from) ⌝ }
+    requires { ⌜ (valid b ≡ true) × Known b places × (calendar.valid own ≡ true) × EntriesOn b (e .entries) (e .count) × (from ≤ 2 ^ 43) × (work ≤ 2 ^ 53) ⌝ }
+    ensures { λ r. ⌜ fitOf r ≡ closing true (sharesOf b (take (e .count) (e .entries))) own work from ⌝ }
 {
     let first = fitting::own_timeline(own);
     let n = e.count + 1;

@@ -1,14 +1,14 @@
 -- The rounds: t becomes the greatest start held, until it stays.
 use mathlib.Core.Path.{_≡_, refl, sym, ap, _∙_, subst}
 use mathlib.Core.Bool.{true, false, cond}
-use mathlib.Core.List.{List, [], _∷_}
+use mathlib.Core.List.{List}
 use Prim.Native.Nat.{ℕ, suc, _-_, _^_, _≤_, _<_}
 use native.Mathlib.Omega.{arith}
 use lib.ListN.{getD, length, take}
 use lib.Seq.{getD-take, length-take-le}
 use lib.Dec.{eqb}
 use borrow.Author.Tests.{eq-eqb, ne-eqb}
-use Rattle.calendar.specs.Search.{greatestOf}
+use Rattle.calendar.specs.Meaning.{greatest-most}
 use Rattle.calendar.specs.Basics.{not-both}
 use Rattle.activity.specs.declared.Activity.{Activity}
 use Rattle.activity.specs.Check.{requirementsOf, activityRefusal}
@@ -20,7 +20,7 @@ use Rattle.scheduler.specs.Choosing as scheduler
 use Rattle.scheduler.specs.Holds.{noHold, heldTo, OnPlaces}
 use Rattle.scheduler.specs.Counting.{instants-few, instants-fall}
 use Rattle.scheduler.specs.Arrays.{each-at}
-use Rattle.scheduler.specs.Lists.{Each, each-end, each-on}
+use Rattle.scheduler.specs.Lists.{Each}
 use Rattle.rounds.specs.declared.Holding.{Holding}
 use Rattle.rounds.specs.declared.Rounds.{Rounds}
 use Rattle.rounds.specs.Named.{latestStart}
@@ -72,9 +72,8 @@ module _ (b : Board) (a : Activity) (ready t : ℕ) (k : Led b a ready t) (h : H
 
 -- those held start by 2^43
 pub latest-soon : (b : Board) (hs : List Hold) → Each (Lasting b) hs → latestStart hs ≤ 2 ^ 43
-unfolding latestStart greatestOf
-latest-soon b [] each-end = omega arith
-latest-soon b (h ∷ hs) (each-on f a) = omega (arith, f .soon, latest-soon b hs a)
+unfolding latestStart
+latest-soon b hs a = greatest-most (λ (h : Hold). h .start) noHold hs (2 ^ 43) (λ k l. each-at (Lasting b) noHold hs a k l .soon)
 
 -- and stand on the board
 pub on-places : (b : Board) (hs : List Hold) (n : ℕ) → n ≤ length hs → Each (Lasting b) (take n hs) → OnPlaces b hs n

@@ -4,24 +4,23 @@ use mathlib.Core.Bool.{Bool, true, false}
 use mathlib.Core.List.{List, [], _∷_}
 use Prim.Native.Nat.{ℕ, _+_}
 use native.Mathlib.Omega.{arith}
-use lib.Dec.{eqb}
 use Rattle.calendar.specs.Every.{every}
 use Rattle.calendar.specs.declared.Calendar.{Calendar}
 use Rattle.calendar.specs.Basics.{and-split, and-join, not-both}
-use Rattle.calendar.specs.Search.{Found, nothing, at, leastFrom}
+use Rattle.calendar.specs.Search.{Found, nothing, at}
 use Rattle.calendar.specs.Fits.{fits}
 use Rattle.calendar.specs.Work.{jointEnd}
-use Rattle.calendar.specs.Meaning.{least-same}
 use Rattle.timeline.specs.declared.ResourceTimeline.{ResourceTimeline}
 use Rattle.timeline.specs.Bookings.{bookings}
 use Rattle.timeline.specs.Earliest.{freeOn, fitsAt, freeTo, startsAt}
 use Rattle.timeline.proofs.Meaning.{free-more}
 use Rattle.board.specs.declared.Board.{Board}
-use Rattle.board.specs.Resources.{noResource, numberAt, lookupTo, lookup, isAt, onBoard}
+use Rattle.board.specs.Resources.{noResource, lookupTo, lookup, isAt, onBoard}
 use Rattle.scheduler.specs.Alone.{Share, canStart, allStart, resourceIn, diaryOf}
 use Rattle.scheduler.specs.Fitting.{allFree}
 use Rattle.scheduler.specs.Alike.{AlikeDiary, Alike, NoExtra}
 use Rattle.board.proofs.Meaning.{lookup-means}
+use Rattle.board.proofs.Keeping as keeping
 use Rattle.scheduler.specs.Lists.{Pairs, pairs-end, pairs-on}
 
 -- the second of two shares wants the same of a diary alike but for extra bookings
@@ -67,10 +66,7 @@ same-alike t = record { capacity-same = refl; calendar-same = refl; more = λ b.
 module _ (b c : Board) (k : Alike b c) where
   -- a number has the same place on both
   pub lookup-same : (n : ℕ) → lookup b n ≡ lookup c n
-  unfolding lookupTo
-  lookup-same n =
-      least-same (λ m. eqb (numberAt b m) n) (λ m. eqb (numberAt c m) n) 0 (b .len) (λ m l h. ap (λ (x : ℕ). eqb x n) (k .resources-alike m (omega arith) .number-same))
-      ∙ ap (leastFrom (λ m. eqb (numberAt c m) n) 0) (k .len-same)
+  lookup-same n = keeping.lookup-same c b (b .len) n (λ m l. k .resources-alike m l .number-same) ∙ ap (λ (l : ℕ). lookupTo c l n) (k .len-same)
 
   pub on-same : (n : ℕ) → onBoard b n ≡ onBoard c n
   on-same n = ap isAt (lookup-same n)

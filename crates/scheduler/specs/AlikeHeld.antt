@@ -2,7 +2,7 @@
 use mathlib.Core.Path.{_≡_, refl, sym, ap, _∙_, subst, fun-ext}
 use mathlib.Core.Bool.{Bool, true, false, _&&_, _||_, cond}
 use mathlib.Core.List.{List, [], _∷_, _++_, map}
-use mathlib.Core.Logic.{_⊎_, ⊎-elim}
+use mathlib.Core.Logic.{⊎-elim}
 use Prim.Native.Nat.{ℕ, suc, _+_, _-_, _≤_, max}
 use native.Mathlib.Omega.{arith}
 use lib.ListN.{length, take}
@@ -27,10 +27,10 @@ use Rattle.board.specs.Setups.{setupOn}
 use Rattle.scheduler.specs.Alone.{Share, allStart, lastOf, diaryOf, companionsOf}
 use Rattle.scheduler.specs.Choosing.{Candidate, sort, Held, heldFor, holdFirst}
 use Rattle.scheduler.specs.declared.Entry.{Entry}
-use Rattle.scheduler.specs.Fitting.{numbersOf, durationTogether, heldEntry, heldEntries, among, joinEach, allCompanions, companionEntry, companionEntries, entriesOf, spanTogether, sharesOf, fitsAll, allFree, freeToEnd, calendarOf, calendarsOf, startsAll, suits, lastAll, fitting, endOf}
+use Rattle.scheduler.specs.Fitting.{numberOf, numbersOf, durationTogether, heldEntry, heldEntries, among, joinEach, allCompanions, companionEntry, companionEntries, entriesOf, spanTogether, shareOf, sharesOf, fitsAll, allFree, freeToEnd, calendarOf, calendarsOf, startsAll, suits, lastAll, fitting, endOf}
 use Rattle.scheduler.specs.Placing.{ended, started, fitted}
 use Rattle.scheduler.specs.Plain.{startsThere, candidateAt, startable, enough, heldAt}
-use Rattle.scheduler.specs.Lists.{Each, each-end, each-on, each-left, each-right, Pairs, pairs-end, pairs-on, pairs-append}
+use Rattle.scheduler.specs.Lists.{Each, each-end, each-on, each-weaken, each-in-map, each-of-map, each-left, each-right, Pairs, pairs-end, pairs-on, pairs-map, pairs-map-each, pairs-append}
 use Rattle.scheduler.specs.Ranking.{length-sort}
 use Rattle.scheduler.specs.Events.{among-append}
 use Rattle.scheduler.specs.Alike.{Alike, NoExtra}
@@ -88,8 +88,7 @@ module _ (b c : Board) (k : Alike b c) (a : Activity) (ready : ℕ) where
   held-pairs q (x ∷ xs) (y ∷ ys) (pairs-on w p) = pairs-on (record { start-same = w .start-same; usage-same = refl; twin = w .twin }) (held-pairs q xs ys p)
 
   clean-held : (q : ResourceRequirement) (xs : List Candidate) → Each (λ h. Clean b c k (h .resource)) (map (heldFor q) xs) → Each (λ x. Unclean x → ⊥) xs
-  clean-held q [] each-end = each-end
-  clean-held q (x ∷ xs) (each-on z zs) = each-on (λ f. f z) (clean-held q xs zs)
+  clean-held q xs z = each-weaken (λ x. Clean b c k (x .resource)) (λ x. Unclean x → ⊥) xs (λ x p f. f p) (each-of-map (λ h. Clean b c k (h .resource)) (heldFor q) xs z)
 
   -- where no extra is on those held and their companions, the second board has enough too and holds the same
   pub held-same : (qs : List ResourceRequirement) (t : ℕ) → Each (λ h. Clean b c k (h .resource)) (heldAt b a ready qs t) → enough b a ready qs t ≡ true
@@ -176,14 +175,6 @@ join-each held joined (c ∷ cs) = go (among c held) (among c joined) refl refl 
         (join-keeps held c (joined ++ (c ∷ [])) cs (among-append c joined (c ∷ []) ∙ or-in-right (among c joined) (eqb c c || false) (or-in-left (eqb c c) false (eq-eqb c c refl))))) j
 
 module _ (N : ℕ → Type 0) (a : Activity) where
-  numbers-each : (category setup : ℕ) (hs : List Held) → Each (λ e. N (e .number)) (heldEntries category setup hs) → Each N (numbersOf hs)
-  numbers-each category setup [] each-end = each-end
-  numbers-each category setup (h ∷ hs) (each-on p z) = each-on p (numbers-each category setup hs z)
-
-  companions-each : (cs : List ℕ) → Each (λ e. N (e .number)) (map companionEntry cs) → Each N cs
-  companions-each [] each-end = each-end
-  companions-each (n ∷ cs) (each-on p z) = each-on p (companions-each cs z)
-
   covered : (held joined cs : List ℕ) → Each N held → Each N joined → Each (λ c. among c held || among c joined ≡ true) cs → Each N cs
   covered held joined [] x y each-end = each-end
   covered held joined (n ∷ cs) x y (each-on p z) =
@@ -197,8 +188,8 @@ module _ (N : ℕ → Type 0) (a : Activity) where
   entries-each hs z =
       let E = heldEntries (a .category) (durationTogether a hs .setup) hs in
       let J = joinEach (numbersOf hs) [] (allCompanions hs) in
-      let x = numbers-each (a .category) (durationTogether a hs .setup) hs (each-left {A = Entry} (λ e. N (e .number)) E (map companionEntry J) z) in
-      let y = companions-each J (each-right {A = Entry} (λ e. N (e .number)) E (map companionEntry J) z) in
+      let x = each-in-map N numberOf hs (each-of-map (λ e. N (e .number)) (heldEntry (a .category) (durationTogether a hs .setup)) hs (each-left {A = Entry} (λ e. N (e .number)) E (map companionEntry J) z)) in
+      let y = each-of-map (λ e. N (e .number)) companionEntry J (each-right {A = Entry} (λ e. N (e .number)) E (map companionEntry J) z) in
       (x, covered (numbersOf hs) J (allCompanions hs) x y (join-each (numbersOf hs) [] (allCompanions hs)))
 
 module _ (b c : Board) (k : Alike b c) where
@@ -215,12 +206,10 @@ module _ (b c : Board) (k : Alike b c) where
 
   -- the shares of the entries are the same both ways
   forth : (es : List Entry) → Pairs AlikeShare (sharesOf b es) (sharesOf c es)
-  forth [] = pairs-end
-  forth (e ∷ es) = pairs-on (record { units-same = refl; alike = diaries-alike b c k (e .number) }) (forth es)
+  forth es = pairs-map AlikeShare (shareOf b) (shareOf c) es (λ e. record { units-same = refl; alike = diaries-alike b c k (e .number) })
 
   back : (es : List Entry) → Each (λ e. NoExtra b c (e .number)) es → Pairs AlikeShare (sharesOf c es) (sharesOf b es)
-  back [] each-end = pairs-end
-  back (e ∷ es) (each-on p z) = pairs-on (record { units-same = refl; alike = diaries-same b c k (e .number) p }) (back es z)
+  back es z = pairs-map-each (λ e. NoExtra b c (e .number)) AlikeShare (shareOf c) (shareOf b) es (λ e p. record { units-same = refl; alike = diaries-same b c k (e .number) p }) z
 
   calendars-same : (es : List Entry) → map calendarOf (sharesOf b es) ≡ map calendarOf (sharesOf c es)
   calendars-same [] = refl

@@ -1,7 +1,7 @@
 -- Alike boards, resource by resource: what can start at an instant on the second can on the first, and one without extras on both.
 use mathlib.Core.Path.{_≡_, refl, sym, ap, _∙_, subst, fun-ext}
 use mathlib.Core.Bool.{Bool, true, false, _&&_}
-use mathlib.Core.List.{List, [], _∷_, map}
+use mathlib.Core.List.{List, _∷_, map}
 use Prim.Native.Nat.{ℕ, _+_}
 use native.Mathlib.Omega.{arith}
 use lib.ListN.{take}
@@ -18,7 +18,7 @@ use Rattle.board.specs.Setups.{setupOn}
 use Rattle.board.specs.Transport.{greatest}
 use Rattle.scheduler.specs.Alone.{allStart, diaryOf, companionsOf, oneUnit, withCompanions, durationAlone, spanAlone, arrival}
 use Rattle.scheduler.specs.Plain.{startsThere}
-use Rattle.scheduler.specs.Lists.{Each, each-end, each-on, Pairs, pairs-end, pairs-on, pairs-map}
+use Rattle.scheduler.specs.Lists.{Each, Pairs, pairs-on, pairs-map, pairs-map-each}
 use Rattle.scheduler.specs.Arrays.{pairs-cells}
 use Rattle.scheduler.specs.Alike.{AlikeDiary, AlikeResource, Alike, NoExtra}
 use Rattle.scheduler.specs.Ruled.{diary-at, all-there}
@@ -80,15 +80,11 @@ module _ (b c : Board) (k : Alike b c) where
         subst (λ (cs : List ℕ). Pairs AlikeShare (withCompanions b r u) (record { timeline = s .timeline; units = u } ∷ map (oneUnit c) cs)) companions-twin
         (pairs-on (record { units-same = refl; alike = w .alike .diary-alike }) (pairs-map AlikeShare (oneUnit b) (oneUnit c) (companionsOf r) (λ n. record { units-same = refl; alike = diaries-alike b c k n })))
 
-    same-tail : (cs : List ℕ) → Each (NoExtra b c) cs → Pairs AlikeShare (map (oneUnit c) cs) (map (oneUnit b) cs)
-    same-tail [] each-end = pairs-end
-    same-tail (n ∷ cs) (each-on f fs) = pairs-on (record { units-same = refl; alike = diaries-same b c k n f }) (same-tail cs fs)
-
     same-shares : (u : ℕ) → Clean r → Pairs AlikeShare (withCompanions c s u) (withCompanions b r u)
     unfolding withCompanions
     same-shares u f =
         subst (λ (cs : List ℕ). Pairs AlikeShare (record { timeline = s .timeline; units = u } ∷ map (oneUnit c) cs) (withCompanions b r u)) companions-twin
-        (pairs-on (record { units-same = refl; alike = own }) (same-tail (companionsOf r) (f .others)))
+        (pairs-on (record { units-same = refl; alike = own }) (pairs-map-each (NoExtra b c) AlikeShare (oneUnit c) (oneUnit b) (companionsOf r) (λ n e. record { units-same = refl; alike = diaries-same b c k n e }) (f .others)))
       where
         own : AlikeDiary (s .timeline) (r .timeline)
         own =

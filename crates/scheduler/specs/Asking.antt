@@ -1,28 +1,30 @@
 -- Several diaries asked one after another: each from the start that the one before gave, and those in front again where it has moved on.
 -- Where all have been asked, that is the least start on all of them.
 use mathlib.Core.Path.{_≡_, refl, sym, ap, _∙_, subst}
-use mathlib.Core.Bool.{Bool, true, false, _&&_}
+use mathlib.Core.Bool.{Bool, true, false}
 use mathlib.Core.List.{List, [], _∷_}
 use mathlib.Core.Logic.{_⊎_, inl, inr, ⊎-elim}
 use Prim.Native.Nat.{ℕ, zero, suc, _+_, _-_, _*_, _^_, _≤_, _<_}
 use native.Mathlib.Omega.{arith}
-use lib.ListN.{getD}
+use lib.ListN.{length, getD, take}
+use lib.Seq.{take-all}
 use lib.Dec.{eqb}
 use borrow.Author.Tests.{eqb-true, eqb-false}
-use Rattle.calendar.specs.Every.{every, every-append}
-use Rattle.calendar.specs.Basics.{and-split, and-join, and-true, no-way, not-both, lt-or-ge}
+use Rattle.calendar.specs.Every.{every, every-in, every-next}
+use Rattle.calendar.specs.Basics.{no-way, not-both}
 use Rattle.calendar.specs.Search.{Found, nothing, at}
-use Rattle.timeline.specs.declared.ResourceTimeline.{ResourceTimeline}
-use Rattle.board.specs.Resources.{noDiary}
+use Rattle.timeline.specs.Valid.{valid}
 use Rattle.timeline.proofs.Searching.{Sought, sought-start}
 use Rattle.timeline.proofs.Meaning.{Earliest}
 use Rattle.scheduler.specs.Alone.{Share, canStart, allStart, earliestOf}
-use Rattle.scheduler.specs.Shares.{startOn, shareAt, sharesTo, timelinesOf, Wanted}
+use Rattle.scheduler.specs.Shares.{startOn, noShare}
 use Rattle.scheduler.specs.Answering.{Answers}
+use Rattle.scheduler.specs.Arrays.{each-at}
 use Rattle.scheduler.specs.Fitting.{among}
+use Rattle.scheduler.specs.Together.{Sound}
 use Rattle.scheduler.specs.Tests.{or-in-left, or-in-right}
 use Rattle.scheduler.specs.Events.{events, eventsOf, among-append, above, above-le, above-falls}
-use Rattle.scheduler.specs.Latest.{start-answers, start-listed, start-range, sought-past, sought-never, together-is, wanted-sound}
+use Rattle.scheduler.specs.Latest.{start-answers, start-listed, start-range, sought-past, sought-never, together-is}
 
 -- the diary to ask after the i-th: the next, and the first again where the start has moved on past those in front
 unfoldable pub nextAsked : ℕ → Bool → ℕ
@@ -46,84 +48,75 @@ next-few zero q = omega arith
 next-few (suc i) true = omega arith
 next-few (suc i) false = omega arith
 
-module _ (resumable : Bool) (span : ℕ) (ts : List ResourceTimeline) (us : List ℕ) where
-  -- the k-th can start at y, and all of the first n
+module _ (resumable : Bool) (span : ℕ) (xs : List Share) where
+  abbrev share : ℕ → Share
+  share k = getD xs k noShare
+
+  -- the k-th can start at y, the first n can, and all can
   abbrev pub can : ℕ → ℕ → Bool
-  can k y = canStart resumable span (shareAt ts us k) y
+  can k y = canStart resumable span (share k) y
 
-  abbrev pub all : ℕ → ℕ → Bool
-  all n y = allStart resumable span (sharesTo ts us n) y
+  abbrev pub those : ℕ → ℕ → Bool
+  those n y = allStart resumable span (take n xs) y
 
-  -- one diary more
-  all-next : (n y : ℕ) → all (suc n) y ≡ all n y && can n y
-  unfolding sharesTo allStart every
-  all-next n y = every-append (λ (x : Share). canStart resumable span x y) (sharesTo ts us n) (shareAt ts us n ∷ []) ∙ ap (λ (p : Bool). all n y && p) (and-true (can n y))
-
-  all-each : (n k y : ℕ) → k < n → all n y ≡ true → can k y ≡ true
-  all-each zero k y l h = absurd (omega arith)
-  all-each (suc n) k y l h =
-      let w = and-split (all n y) (can n y) (sym (all-next n y) ∙ h) in
-      ⊎-elim
-      (λ (m : k < n). all-each n k y m (w .0))
-      (λ (m : n ≤ k).
-      let e : k ≡ n = omega arith in
-      rw e (w .1))
-      (lt-or-ge k n)
+  abbrev pub all : ℕ → Bool
+  all y = allStart resumable span xs y
 
   -- where one cannot, not all can
-  not-all : (n k y : ℕ) → k < n → can k y ≡ false → all n y ≡ false
-  not-all n k y l e = no-way (all n y) (λ h. not-both (can k y) (all-each n k y l h) e)
+  not-all : (k y : ℕ) → k < length xs → can k y ≡ false → all y ≡ false
+  unfolding allStart
+  not-all k y l e = no-way (all y) (λ h. not-both (can k y) (every-in (λ (x : Share). canStart resumable span x y) xs k noShare l h) e)
 
-  -- what the asking keeps: nothing before t suits all n, and t suits the first i
-  pub record Asked (n from t i : ℕ) : Type 0 where
-    pub sought : Sought (all n) from t
-    pub those : all i t ≡ true
-    pub most : i ≤ n
+  -- what the asking keeps: nothing before t suits all, and t suits the first i
+  pub record Asked (from t i : ℕ) : Type 0 where
+    pub sought : Sought all from t
+    pub fine : those i t ≡ true
+    pub most : i ≤ length xs
     pub range : t ≤ 2 ^ 43
 
-  pub asked-start : (n from : ℕ) → from ≤ 2 ^ 43 → Asked n from from 0
-  unfolding sharesTo allStart every
-  asked-start n from r = record { sought = sought-start (all n) from; those = refl; most = omega arith; range = r }
+  pub asked-start : (from : ℕ) → from ≤ 2 ^ 43 → Asked from from 0
+  unfolding allStart every
+  asked-start from r = record { sought = sought-start all from; fine = refl; most = omega arith; range = r }
 
   -- the i-th answers with x
-  those-next : (t i x : ℕ) (q : Bool) → (q ≡ true → x ≡ t) → all i t ≡ true → can i x ≡ true → all (nextAsked i q) x ≡ true
-  unfolding nextAsked sharesTo allStart every
-  those-next t zero x q same a c = all-next 0 x ∙ c
-  those-next t (suc i) x true same a c =
-      let z : suc i + 1 ≡ suc (suc i) = omega arith in
-      rw z (all-next (suc i) x ∙ and-join (all (suc i) x) (can (suc i) x) (ap (all (suc i)) (same refl) ∙ a) c)
-  those-next t (suc i) x false same a c = refl
+  fine-next : (t i x : ℕ) (q : Bool) → (q ≡ true → x ≡ t) → i < length xs → those i t ≡ true → can i x ≡ true → those (nextAsked i q) x ≡ true
+  unfolding nextAsked allStart every
+  fine-next t zero x q same l a c = every-next (λ (y : Share). canStart resumable span y x) noShare xs 0 l refl c
+  fine-next t (suc i) x true same l a c = every-next (λ (y : Share). canStart resumable span y x) noShare xs (suc i) l (ap (those (suc i)) (same refl) ∙ a) c
+  fine-next t (suc i) x false same l a c = refl
 
-  module _ (n from t i : ℕ) (wanted : Wanted ts us n) (a : Asked n from t i) (l : i < n) where
-    answers : (f : Found) → startOn resumable span (shareAt ts us i) t ≡ f → Answers (can i) t f
-    answers f e = subst (Answers (can i) t) e (start-answers resumable span (shareAt ts us i) t (wanted .kept i l))
+  module _ (from t i : ℕ) (sound : Sound xs) (a : Asked from t i) (l : i < length xs) where
+    kept : valid (share i .timeline) ≡ true
+    kept = each-at (λ x. valid (x .timeline) ≡ true) noShare xs sound i l
 
-    pub asked-on : (x : ℕ) → startOn resumable span (shareAt ts us i) t ≡ at x → Asked n from x (nextAsked i (eqb x t))
+    answers : (f : Found) → startOn resumable span (share i) t ≡ f → Answers (can i) t f
+    answers f e = subst (Answers (can i) t) e (start-answers resumable span (share i) t kept)
+
+    pub asked-on : (x : ℕ) → startOn resumable span (share i) t ≡ at x → Asked from x (nextAsked i (eqb x t))
     asked-on x e =
         let w : Earliest (can i) t x = answers (at x) e in
         record {
-          sought = sought-past (all n) from t x (a .sought) (w .low) (λ y b m. not-all n i y l (w .first y b m));
-          those = those-next t i x (eqb x t) (eqb-true x t) (a .those) (w .holds);
+          sought = sought-past all from t x (a .sought) (w .low) (λ y b m. not-all i y l (w .first y b m));
+          fine = fine-next t i x (eqb x t) (eqb-true x t) l (a .fine) (w .holds);
           most = omega (arith, next-few i (eqb x t));
-          range = omega (arith, a .range, start-range resumable span (shareAt ts us i) t x (wanted .kept i l) w);
+          range = omega (arith, a .range, start-range resumable span (share i) t x kept w);
         }
 
     -- and nothing suits all where it answers with nothing
-    pub asked-none : startOn resumable span (shareAt ts us i) t ≡ nothing → nothing ≡ earliestOf resumable span (sharesTo ts us n) from
-    asked-none e = together-is resumable span (sharesTo ts us n) from nothing (wanted-sound ts us n wanted) (sought-never (all n) from t (a .sought) (λ y b. not-all n i y l (answers nothing e y b)))
+    pub asked-none : startOn resumable span (share i) t ≡ nothing → nothing ≡ earliestOf resumable span xs from
+    asked-none e = together-is resumable span xs from nothing sound (sought-never all from t (a .sought) (λ y b. not-all i y l (answers nothing e y b)))
 
     -- its answer is the instant asked from, or an event on its diary
-    pub asked-listed : (x : ℕ) → startOn resumable span (shareAt ts us i) t ≡ at x → (t ≤ x) × ((x ≡ t) ⊎ (among x (events (getD ts i noDiary)) ≡ true))
+    pub asked-listed : (x : ℕ) → startOn resumable span (share i) t ≡ at x → (t ≤ x) × ((x ≡ t) ⊎ (among x (events (share i .timeline)) ≡ true))
     asked-listed x e =
         let w : Earliest (can i) t x = answers (at x) e in
-        (w .low, start-listed resumable span (shareAt ts us i) t x w)
+        (w .low, start-listed resumable span (share i) t x w)
 
   -- with all asked, t is the least start
-  pub asked-all : (n from t i : ℕ) → Wanted ts us n → Asked n from t i → n ≤ i → at t ≡ earliestOf resumable span (sharesTo ts us n) from
-  asked-all n from t i wanted a l =
-      let z : i ≡ n = omega (arith, a .most) in
-      together-is resumable span (sharesTo ts us n) from (at t) (wanted-sound ts us n wanted)
-      (record { low = a .sought .low; holds = rw z at (a .those); first = a .sought .none })
+  pub asked-all : (from t i : ℕ) → Sound xs → Asked from t i → length xs ≤ i → at t ≡ earliestOf resumable span xs from
+  asked-all from t i sound a l =
+      let z = take-all i xs l in
+      together-is resumable span xs from (at t) sound (record { low = a .sought .low; holds = rw z at (a .fine); first = a .sought .none })
 
 -- a diary more is asked, or the start has moved on to a listed instant and fewer are left after it
 pub asked-less : (l : List ℕ) (n before t i x : ℕ) → n < 32 → i < n → before ≤ t → t ≤ x → (x ≡ t) ⊎ (among x l ≡ true) → above l x * 32 + (n - nextAsked i (eqb x t)) < above l before * 32 + (n - i)
@@ -136,11 +129,11 @@ asked-less l n before t i x few m low on listed = go (eqb x t) refl
         omega (arith, above-falls l t x (omega (arith, ne)) (⊎-elim (λ (z : x ≡ t). absurd (ne z)) (λ (z : among x l ≡ true). z) listed), above-le l before t low)
 
 -- an event on the i-th diary is one of all
-pub event-among : (xs : List Share) (i x : ℕ) → among x (events (getD (timelinesOf xs) i noDiary)) ≡ true → among x (eventsOf xs) ≡ true
+pub event-among : (xs : List Share) (i x : ℕ) → among x (events (getD xs i noShare .timeline)) ≡ true → among x (eventsOf xs) ≡ true
 unfolding eventsOf events among
 event-among [] i x e = absurd (not-both true refl (sym e))
 event-among (y ∷ ys) zero x e = among-append x (events (y .timeline)) (eventsOf ys) ∙ or-in-left (among x (events (y .timeline))) (among x (eventsOf ys)) e
 event-among (y ∷ ys) (suc i) x e = among-append x (events (y .timeline)) (eventsOf ys) ∙ or-in-right (among x (events (y .timeline))) (among x (eventsOf ys)) (event-among ys i x e)
 
-pub listed-among : (xs : List Share) (i t x : ℕ) → (x ≡ t) ⊎ (among x (events (getD (timelinesOf xs) i noDiary)) ≡ true) → (x ≡ t) ⊎ (among x (eventsOf xs) ≡ true)
-listed-among xs i t x = ⊎-elim inl (λ (e : among x (events (getD (timelinesOf xs) i noDiary)) ≡ true). inr (event-among xs i x e))
+pub listed-among : (xs : List Share) (i t x : ℕ) → (x ≡ t) ⊎ (among x (events (getD xs i noShare .timeline)) ≡ true) → (x ≡ t) ⊎ (among x (eventsOf xs) ≡ true)
+listed-among xs i t x = ⊎-elim inl (λ (e : among x (events (getD xs i noShare .timeline)) ≡ true). inr (event-among xs i x e))

@@ -4,7 +4,7 @@ use mathlib.Core.Path.{_≡_, refl, sym, ap, _∙_}
 use mathlib.Core.Bool.{Bool, true, false, _&&_, _||_, cond}
 use mathlib.Core.List.{List, [], _∷_, _++_}
 use mathlib.Core.Logic.{_⊎_, inl, inr, ⊎-elim}
-use Prim.Native.Nat.{ℕ, zero, suc, _+_, _≤_, _<_, max}
+use Prim.Native.Nat.{ℕ, zero, suc, _≤_, _<_, max}
 use native.Mathlib.Omega.{arith}
 use lib.ListN.{length}
 use lib.Dec.{leb, eqb}
@@ -29,7 +29,7 @@ use Rattle.scheduler.specs.Lists.{Each, each-end, each-on, each-append}
 use Rattle.scheduler.specs.Together.{all-back}
 use Rattle.scheduler.specs.Ranking.{each-sort}
 use Rattle.scheduler.specs.Answering.{Answers, Kept, served, alone-answers, told}
-use Rattle.scheduler.specs.Rounds.{heldOf, not-few, hold-parts, each-hold, greatest-le, greatest-each, greatest-ge, round-at, round-upto, round-from, round-stays, round-some}
+use Rattle.scheduler.specs.Rounds.{heldOf, not-few, hold-parts, each-hold, greatest-le, starts-le, greatest-ge, round-at, round-upto, round-from, round-stays, round-some}
 use Rattle.scheduler.specs.Events.{eventsOf, calm-else, least-listed, above, above-falls}
 use Rattle.scheduler.specs.Tests.{or-left, or-right}
 
@@ -142,7 +142,7 @@ module _ (b : Board) (a : Activity) (ready : ℕ) (kept : (q : ResourceRequireme
       stays : (t : ℕ) (hs : List Held) → round b a ready t (q ∷ qs) ≡ holds hs → greatestStart hs ≡ t → (P t ≡ true) × (hs ≡ H t)
       unfolding heldOf
       stays t hs e m =
-          let p = round-stays b a ready kept t (q ∷ qs) hs e (greatest-each t hs (omega arith)) in
+          let p = round-stays b a ready kept t (q ∷ qs) hs e (starts-le t hs (omega arith)) in
           (p, ap heldOf (sym e ∙ round-at b a ready kept t (q ∷ qs) p))
 
       -- a step leads to a listed instant, after which fewer are left

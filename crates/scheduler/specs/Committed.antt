@@ -2,7 +2,7 @@
 use mathlib.Core.Path.{_≡_, refl, sym, ap, _∙_, subst}
 use mathlib.Core.Bool.{Bool, true, false, not, _&&_, _||_, cond}
 use mathlib.Core.List.{List, [], _∷_}
-use mathlib.Core.Logic.{_⊎_, ⊎-elim}
+use mathlib.Core.Logic.{⊎-elim}
 use Prim.Native.Nat.{ℕ, zero, suc, _+_, _^_, _≤_, _<_}
 use native.Mathlib.Omega.{arith}
 use lib.ListN.{length, length-set}
@@ -13,7 +13,6 @@ use Rattle.calendar.specs.Basics.{and-split, and-join, lt-or-ge, same-or-not, u
 use Rattle.calendar.specs.Search.{Found, nothing, at, when}
 use Rattle.timeline.specs.declared.ResourceTimeline.{ResourceTimeline}
 use Rattle.timeline.specs.Bookings.{Booking, bookings, times}
-use Rattle.timeline.specs.Valid as timeline
 use Rattle.timeline.specs.Diary.{insertBooking, diary}
 use Rattle.timeline.proofs.Rules as timeline-rules
 use Rattle.timeline.proofs.Rows.{count}
@@ -27,13 +26,12 @@ use Rattle.board.specs.Valid as board
 use Rattle.board.specs.Enter.{entered, changed}
 use Rattle.board.proofs.Facts.{rules}
 use Rattle.board.proofs.Meaning.{lookup-means, resource-rules}
-use Rattle.board.proofs.Keeping.{valid-with}
+use Rattle.board.proofs.Keeping.{lookup-same, valid-with}
 use Rattle.scheduler.specs.Alone.{resourceIn, diaryOf}
 use Rattle.scheduler.specs.Alike.{AlikeDiary}
 use Rattle.scheduler.specs.AlikeDiaries.{same-alike}
 use Rattle.scheduler.specs.Committing.{Line, entriesOn, linesOf, linesRefusal, commitRefusal, withBooking, lastAfter, booked, bookAll, commitReply}
-use Rattle.scheduler.specs.Lists.{Each, each-end, each-on, each-map}
-use Rattle.calendar.specs.Meaning.{least-same}
+use Rattle.scheduler.specs.Lists.{Each, each-end, each-on, each-weaken}
 use Rattle.scheduler.specs.Ruled.{on-place, on-valid}
 use Rattle.scheduler.specs.Tests.{or-left, or-right}
 
@@ -101,11 +99,6 @@ module _ (start end category : ℕ) where
   unfolding bookAll
   frame-transport [] b = refl
   frame-transport (l ∷ ls) b = frame-transport ls (changed b (lookup b (l .number)) (booked start end category l)) ∙ step-transport b l (lookup b (l .number))
-
-  pub frame-long : (ls : List Line) (b : Board) → length (bookAll start end category ls b .resources) ≡ length (b .resources)
-  unfolding bookAll
-  frame-long [] b = refl
-  frame-long (l ∷ ls) b = frame-long ls (changed b (lookup b (l .number)) (booked start end category l)) ∙ step-long b l (lookup b (l .number))
 
 -- a booking more: every booking is kept
 inserted-more : (x b : Booking) (xs : List Booking) → times b xs ≤ times b (insertBooking x xs)
@@ -263,10 +256,9 @@ module _ (start end category : ℕ) (w : Bookable start end category) where
 
     -- a number keeps its place
     pub lookup-after : (n : ℕ) → lookup after n ≡ lookup b n
-    unfolding lookupTo
     lookup-after n =
         ap (λ (k : ℕ). lookupTo after k n) (step-len start end category b l (lookup b (l .number)))
-        ∙ least-same (λ m. eqb (numberAt after m) n) (λ m. eqb (numberAt b m) n) 0 (b .len) (λ m i j. ap (λ (x : ℕ). eqb x n) (step-number start end category b l m (omega (arith, rules b v .few))))
+        ∙ lookup-same b after (b .len) n (λ m i. step-number start end category b l m (omega (arith, rules b v .few)))
 
     place : (i : ℕ) × (lookup b (l .number) ≡ at i) × (i < b .len)
     place = on-place b v (l .number) (p .on)
@@ -319,16 +311,26 @@ module _ (start end category : ℕ) (w : Bookable start end category) where
       let m : diaryOf b (l .number) .len + (cond (eqb (l .number) (l .number)) 1 0 + entriesOn (l .number) ls) ≤ 64 = f (l .number) (p .on) in
       let g : diaryOf b (l .number) .len + (1 + entriesOn (l .number) ls) ≤ 64 = rw e at m in
       all-keep ls (changed b (lookup b (l .number)) (booked start end category l)) (step-long start end category b l (lookup b (l .number)) ∙ long) (after-keeps b long v l p (omega arith))
-      (each-map (Right b) (Right (changed b (lookup b (l .number)) (booked start end category l))) ls (right-after b long v l p) ps)
+      (each-weaken (Right b) (Right (changed b (lookup b (l .number)) (booked start end category l))) ls (right-after b long v l p) ps)
       (room-after b long v l p ls f)
 
+-- the checks of the entries: on the board, units in range, room in the diaries
+abbrev pub allOn : Board → List Line → Bool
+allOn b ls = every (λ l. onBoard b (l .number)) ls
+
+abbrev pub allMetered : List Line → Bool
+allMetered ls = every (λ l. leb 1 (l .units) && leb (l .units) 10000) ls
+
+abbrev pub allRoomy : Board → List Line → Bool
+allRoomy b ls = every (λ l. leb (diaryOf b (l .number) .len + entriesOn (l .number) ls) 64) ls
+
 -- the entries passed each check
-pub passed : (b : Board) (ls : List Line) → every (λ l. onBoard b (l .number)) ls ≡ true → every (λ l. leb 1 (l .units) && leb (l .units) 10000) ls ≡ true → Each (Right b) ls
+pub passed : (b : Board) (ls : List Line) → allOn b ls ≡ true → allMetered ls ≡ true → Each (Right b) ls
 unfolding every
 passed b [] e f = each-end
 passed b (l ∷ ls) e f =
-    let x = and-split (onBoard b (l .number)) (every (λ l. onBoard b (l .number)) ls) e in
-    let y = and-split (leb 1 (l .units) && leb (l .units) 10000) (every (λ l. leb 1 (l .units) && leb (l .units) 10000) ls) f in
+    let x = and-split (onBoard b (l .number)) (allOn b ls) e in
+    let y = and-split (leb 1 (l .units) && leb (l .units) 10000) (allMetered ls) f in
     let z = and-split (leb 1 (l .units)) (leb (l .units) 10000) (y .0) in
     each-on (record { on = x .0; some = leb-true 1 (l .units) (z .0); few = leb-true (l .units) 10000 (z .1) }) (passed b ls (x .1) (y .1))
 
@@ -343,34 +345,41 @@ named P n (l ∷ ls) e h =
     go true f g p rest = ap P (sym (eqb-true (l .number) n f)) ∙ p
     go false f g p rest = rest (omega arith)
 
-pub room-passed : (b : Board) (ls : List Line) → board.valid b ≡ true → every (λ l. leb (diaryOf b (l .number) .len + entriesOn (l .number) ls) 64) ls ≡ true → Room b ls
+pub room-passed : (b : Board) (ls : List Line) → board.valid b ≡ true → allRoomy b ls ≡ true → Room b ls
 room-passed b ls v e n o =
     ⊎-elim
     (λ (h : 0 < entriesOn n ls). leb-true (diaryOf b n .len + entriesOn n ls) 64 (named (λ m. leb (diaryOf b m .len + entriesOn m ls) 64) n ls e (omega arith)))
     (λ (h : entriesOn n ls ≤ 0). omega (arith, timeline-rules.rules (diaryOf b n) (on-valid b v n o) .room))
     (lt-or-ge 0 (entriesOn n ls))
 
+-- lines that are not refused can be booked
+pub all-fine : (b : Board) (ls : List Line) (start end category : ℕ) → board.valid b ≡ true → linesRefusal b ls start end category ≡ 0 → Bookable start end category × Each (Right b) ls × Room b ls
+unfolding linesRefusal
+all-fine b ls start end category v e =
+    let x0 = unrefused (not (allOn b ls) || ltb 15 category) 4 _ e in
+    let x1 = unrefused (ltb (2 ^ 42) start || ltb (2 ^ 42) end) 0 _ (x0 .1) in
+    let x2 = unrefused (leb end start) 1 _ (x1 .1) in
+    let x3 = unrefused (not (allMetered ls)) 2 _ (x2 .1) in
+    let x4 = unrefused (not (allRoomy b ls)) 3 0 (x3 .1) in (
+      record {
+        order = leb-false end start (x2 .0);
+        range = ltb-false (2 ^ 42) end (or-right (ltb (2 ^ 42) start) (ltb (2 ^ 42) end) (x1 .0));
+        category-range = ltb-false 15 category (or-right (not (allOn b ls)) (ltb 15 category) (x0 .0));
+      },
+      passed b ls (not-false (allOn b ls) (or-left (not (allOn b ls)) (ltb 15 category) (x0 .0))) (not-false (allMetered ls) (x3 .0)),
+      room-passed b ls v (not-false (allRoomy b ls) (x4 .0)),
+    )
+
 -- a committed board keeps the rules
 pub commit-keeps : (b : Board) (slate : List (List ℕ)) (count start end category : ℕ) → length (b .resources) ≡ 16 → board.valid b ≡ true → board.valid (commitReply b slate count start end category .board) ≡ true
-unfolding commitReply commitRefusal linesRefusal entered linesOf bookAll
+unfolding commitReply commitRefusal entered linesOf bookAll
 commit-keeps b slate count start end category long v = go (commitRefusal b slate count start end category) refl
   where
     ls : List Line
     ls = linesOf count slate
 
     booking : linesRefusal b ls start end category ≡ 0 → board.valid (bookAll start end category ls b) ≡ true
-    booking e =
-        let x0 = unrefused (not (every (λ l. onBoard b (l .number)) ls) || ltb 15 category) 4 _ e in
-        let x1 = unrefused (ltb (2 ^ 42) start || ltb (2 ^ 42) end) 0 _ (x0 .1) in
-        let x2 = unrefused (leb end start) 1 _ (x1 .1) in
-        let x3 = unrefused (not (every (λ l. leb 1 (l .units) && leb (l .units) 10000) ls)) 2 _ (x2 .1) in
-        let x4 = unrefused (not (every (λ l. leb (diaryOf b (l .number) .len + entriesOn (l .number) ls) 64) ls)) 3 0 (x3 .1) in
-        let on = not-false _ (or-left (not (every (λ l. onBoard b (l .number)) ls)) (ltb 15 category) (x0 .0)) in
-        let c = ltb-false 15 category (or-right (not (every (λ l. onBoard b (l .number)) ls)) (ltb 15 category) (x0 .0)) in
-        let m = ltb-false (2 ^ 42) end (or-right (ltb (2 ^ 42) start) (ltb (2 ^ 42) end) (x1 .0)) in
-        all-keep start end category (record { order = leb-false end start (x2 .0); range = m; category-range = c }) ls b long v
-        (passed b ls on (not-false _ (x3 .0)))
-        (room-passed b ls v (not-false _ (x4 .0)))
+    booking e = let w = all-fine b ls start end category v e in all-keep start end category (w .0) ls b long v (w .1) (w .2)
 
     counted : (q : Bool) → eqb count 0 ≡ q → cond q 0 (cond (ltb (length slate) count) 7 (linesRefusal b ls start end category)) ≡ 0 → board.valid (bookAll start end category ls b) ≡ true
     counted true f e = rw (eqb-true count 0 f) v

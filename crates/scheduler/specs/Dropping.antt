@@ -10,7 +10,7 @@ use lib.Dec.{ltb, eqb}
 use borrow.Author.Tests.{ltb-true, ltb-false, lt-ltb, le-ltb, eqb-true, eqb-false, eq-eqb}
 use Rattle.calendar.specs.Basics.{not-both}
 use Rattle.scheduler.specs.Choosing.{Candidate, comesFirst, insert, sortInto, sort, insertBy}
-use Rattle.scheduler.specs.Lists.{Each, each-end, each-on, each-map, Pairs, pairs-end, pairs-on}
+use Rattle.scheduler.specs.Lists.{Each, each-end, each-on, each-weaken, Pairs, pairs-end, pairs-on}
 use Rattle.scheduler.specs.Ranking.{each-insert}
 
 -- earlier, or at the same start of shorter processing
@@ -70,7 +70,7 @@ insert-sorted c (d ∷ ds) (sorted-on a s) = go (comesFirst c d) refl (insert-so
     go : (q : Bool) → comesFirst c d ≡ q → Sorted (insert c ds) → Sorted (cond q (c ∷ d ∷ ds) (d ∷ insert c ds))
     go true e r =
         let f = first-says c d e in
-        sorted-on (each-on (turned c d f) (each-map (λ e. Not e d) (λ e. Not e c) ds (λ e n. turned c e (onward c d e f n)) a)) (sorted-on a s)
+        sorted-on (each-on (turned c d f) (each-weaken (λ e. Not e d) (λ e. Not e c) ds (λ e n. turned c e (onward c d e f n)) a)) (sorted-on a s)
     go false e r = sorted-on (each-insert comesFirst (λ e. Not e d) c ds (not-says c d e) a) r
 
 -- the second list is the first with some that have D left out, the others related by R
@@ -105,7 +105,7 @@ module _ (D : Candidate → Type 0) (R : Candidate → Candidate → Type 0) (st
       go : (u : Bool) → comesFirst x d ≡ u → Sub D R (insert x ds) (insert y ys) → Sub D R (cond u (x ∷ d ∷ ds) (d ∷ insert x ds)) (insert y ys)
       go true h i =
           let f = first-says x d h in
-          rw (leads x y ds ys p (each-map (λ e. Not e d) (λ e. First x e) ds (λ e n. onward x d e f n) a) s) (sub-keep p (sub-drop k s))
+          rw (leads x y ds ys p (each-weaken (λ e. Not e d) (λ e. First x e) ds (λ e n. onward x d e f n) a) s) (sub-keep p (sub-drop k s))
       go false h i = sub-drop k i
 
   sub-without : (x : Candidate) (xs ys : List Candidate) → D x → Sub D R xs ys → Sub D R (insert x xs) ys

@@ -4,13 +4,13 @@ use mathlib.Core.Path.{_≡_, refl, sym, ap, _∙_}
 use mathlib.Core.Bool.{Bool, true, false, _&&_, _||_}
 use mathlib.Core.List.{List, [], _∷_, _++_}
 use mathlib.Core.Logic.{_⊎_, inl, inr, ⊎-elim}
-use Prim.Native.Nat.{ℕ, zero, suc, _*_, _^_, _≤_, _<_, max}
+use Prim.Native.Nat.{ℕ, _*_, _^_, _≤_, _<_, max}
 use native.Mathlib.Omega.{arith}
-use lib.ListN.{getD, length, length-append}
+use lib.ListN.{length, length-append}
 use Rattle.calendar.specs.Every.{every}
 use Rattle.calendar.specs.Basics.{and-split, and-join, no-way, not-both, lt-or-ge}
-use Rattle.calendar.specs.Search.{Found, nothing, at, greatestOf}
-use Rattle.timeline.specs.declared.ResourceTimeline.{ResourceTimeline}
+use Rattle.calendar.specs.Search.{Found, nothing, at}
+use Rattle.calendar.specs.Meaning.{greatest-most}
 use Rattle.timeline.specs.Valid.{valid}
 use Rattle.timeline.specs.Earliest.{fitsAt, startsAt, lastEvent, earliestFit, earliestResumable}
 use Rattle.timeline.proofs.Rules.{rules}
@@ -19,13 +19,13 @@ use Rattle.timeline.proofs.Stepping.{last-still, last-range}
 use Rattle.timeline.proofs.Meaning.{Earliest, fit-means, none-means, resumable-means, no-start-means}
 use Rattle.scheduler.specs.Alone.{Share, canStart, allStart, lastOf, earliestOf}
 use Rattle.scheduler.specs.Fitting.{among}
-use Rattle.scheduler.specs.Shares.{startOn, shareAt, sharesTo, Wanted}
-use Rattle.scheduler.specs.Lists.{each-end, each-on, each-append}
+use Rattle.scheduler.specs.Shares.{startOn, noShare}
+use Rattle.scheduler.specs.Lists.{each-end, each-on}
+use Rattle.scheduler.specs.Arrays.{each-at}
 use Rattle.scheduler.specs.Together.{Sound, can-back, together-found, together-none}
 use Rattle.scheduler.specs.Answering.{Answers, answers-same}
 use Rattle.scheduler.specs.Events.{events, eventsOf, among-append, still-else, least-listed}
 use Rattle.scheduler.specs.Ruled.{events-length}
-use Rattle.board.specs.Resources.{noDiary}
 use Rattle.scheduler.specs.Tests.{or-in-left, or-in-right}
 
 -- the least start on one diary
@@ -137,21 +137,8 @@ together-is resumable span xs from f v w = answers-same (allStart resumable span
 
 -- on diaries that keep the rules nothing changes after 2^42
 pub last-small : (xs : List Share) → Sound xs → lastOf xs ≤ 2 ^ 42
-unfolding lastOf greatestOf
-last-small [] each-end = omega arith
-last-small (x ∷ xs) (each-on v s) = omega (arith, last-range (x .timeline) (rules (x .timeline) v), last-small xs s)
-
--- the shares in the first n cells are theirs alone
-pub shares-same : (ts : List ResourceTimeline) (us : List ℕ) (xs : List ResourceTimeline) (vs : List ℕ) (n : ℕ) → ((k : ℕ) → k < n → getD xs k noDiary ≡ getD ts k noDiary) → ((k : ℕ) → k < n → getD vs k 0 ≡ getD us k 0) → sharesTo xs vs n ≡ sharesTo ts us n
-unfolding sharesTo
-shares-same ts us xs vs zero f g = refl
-shares-same ts us xs vs (suc n) f g = rw (shares-same ts us xs vs n (λ k l. f k (omega arith)) (λ k l. g k (omega arith)), f n (omega arith), g n (omega arith)) refl
-
--- and sound where their diaries keep the rules
-pub wanted-sound : (ts : List ResourceTimeline) (us : List ℕ) (n : ℕ) → Wanted ts us n → Sound (sharesTo ts us n)
-unfolding sharesTo
-wanted-sound ts us zero w = each-end
-wanted-sound ts us (suc n) w = each-append (λ x. valid (x .timeline) ≡ true) (sharesTo ts us n) (shareAt ts us n ∷ []) (wanted-sound ts us n (record { kept = λ k l. w .kept k (omega arith); some = λ k l. w .some k (omega arith) })) (each-on (w .kept n (omega arith)) each-end)
+unfolding lastOf
+last-small xs s = greatest-most (λ (x : Share). lastEvent (x .timeline)) noShare xs (2 ^ 42) (λ k l. last-range _ (rules _ (each-at (λ x. valid (x .timeline) ≡ true) noShare xs s k l)))
 
 -- diaries that keep the rules have at most 128 events each
 pub events-count : (xs : List Share) → Sound xs → length (eventsOf xs) ≤ 128 * length xs

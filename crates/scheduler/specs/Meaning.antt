@@ -1,15 +1,13 @@
 -- What choosing and placing amount to, in the plainest terms.
 use mathlib.Core.Path.{_≡_, refl, sym, ap, _∙_, subst}
-use mathlib.Core.Bool.{Bool, true, false, not, _||_, cond}
+use mathlib.Core.Bool.{Bool, true, false, not}
 use mathlib.Core.List.{List, [], _∷_, map}
 use mathlib.Core.Logic.{_⊎_, inl, inr, ⊎-elim}
-use Prim.Native.Nat.{ℕ, _+_, _≤_}
+use Prim.Native.Nat.{ℕ, _+_, _≤_, _<_}
 use native.Mathlib.Omega.{arith}
-use lib.ListN.{length, drop, length-map}
+use lib.ListN.{length, getD, drop, length-map}
 use lib.Seq.{drop-at}
-use lib.Dec.{leb, ltb}
-use borrow.Author.Tests.{leb-true, not-false}
-use Rattle.calendar.specs.Basics.{and-split, not-both, unrefused}
+use Rattle.calendar.specs.Basics.{not-both}
 use Rattle.calendar.specs.Search.{Found, nothing, at}
 use Rattle.calendar.specs.Valid as calendar
 use Rattle.calendar.specs.Work.{jointEnd}
@@ -18,7 +16,8 @@ use Rattle.timeline.proofs.Meaning.{Earliest, straight}
 use Rattle.activity.specs.declared.ResourceRequirement.{ResourceRequirement}
 use Rattle.activity.specs.declared.Activity.{Activity}
 use Rattle.calendar.specs.Every.{every}
-use Rattle.activity.specs.Check.{requirementsOf, quantity, quantitiesRight, usageRight, timingSpeed, timesRight, activityRefusal}
+use Rattle.activity.proofs.Judging.{accepted}
+use Rattle.activity.specs.Check.{noRequirement, requirementsOf, quantity, activityRefusal}
 use Rattle.board.specs.declared.Board.{Board}
 use Rattle.board.specs.Valid as board
 use Rattle.scheduler.specs.Alone.{Share, spanOf, allStart}
@@ -27,7 +26,6 @@ use Rattle.scheduler.specs.declared.Entry.{Entry}
 use Rattle.scheduler.specs.Fitting.{entriesOf, spanTogether, sharesOf, fitsAll, allFree, calendarsOf, freeToEnd, startsAll, suits, fitting, endOf}
 use Rattle.scheduler.specs.Placing.{Reply, placed, chosenNone, none, refused, ended, started, fitted, fitChosen, timeOnly, byRequirements, placing, rowOf, slateAfter}
 use Rattle.scheduler.specs.Plain.{enough, heldAt}
-use Rattle.scheduler.specs.Tests.{or-right}
 use Rattle.scheduler.specs.Lists.{each-end}
 use Rattle.scheduler.specs.Together.{Sound}
 use Rattle.scheduler.specs.Answering.{Answers}
@@ -48,15 +46,7 @@ choosing-means b v a ready q qs asks some =
 
 -- an order that is not refused asks for at least one of each
 pub some-of-each : (a : Activity) (ready : ℕ) (q : ResourceRequirement) (qs : List ResourceRequirement) → requirementsOf a ≡ q ∷ qs → activityRefusal a ready ≡ 0 → 1 ≤ q .quantity
-unfolding activityRefusal quantitiesRight every
-some-of-each a ready q qs asks h =
-    let last : ℕ = cond (not (every usageRight (requirementsOf a))) 3 (cond (not (every (λ t. timingSpeed (t .timing)) (a .timings))) 8 0) in
-    let third : ℕ = cond (ltb 4 (a .len) || not (quantitiesRight (requirementsOf a))) 6 last in
-    let e = unrefused (not (timesRight a ready)) 0 third (unrefused (ltb 15 (a .category)) 4 (cond (not (timesRight a ready)) 1 third) h .1) .1 in
-    let f = not-false (quantitiesRight (requirementsOf a)) (or-right (ltb 4 (a .len)) (not (quantitiesRight (requirementsOf a))) (unrefused (ltb 4 (a .len) || not (quantitiesRight (requirementsOf a))) 5 last e .0)) in
-    let g : quantitiesRight (q ∷ qs) ≡ true = rw asks at f in
-    let i = and-split (every (λ r. leb 1 (r .quantity)) (q ∷ qs)) (leb (quantity (q ∷ qs)) 8) g .0 in
-    leb-true 1 (q .quantity) (and-split (leb 1 (q .quantity)) (every (λ r. leb 1 (r .quantity)) qs) i .0)
+some-of-each a ready q qs asks h = subst (λ (rs : List ResourceRequirement). 0 < length rs → 1 ≤ getD rs 0 noRequirement .quantity) asks (accepted a ready h .some 0) (omega arith)
 
 -- a start that suits all has an end
 has-end : (resumable : Bool) (xs : List Share) (a : Activity) (span s : ℕ) → suits resumable xs (a .calendar) span s ≡ true → (e : ℕ) × (endOf resumable xs (a .calendar) span s ≡ at e)

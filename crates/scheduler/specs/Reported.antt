@@ -14,12 +14,11 @@ use Rattle.board.specs.declared.Board.{Board}
 use Rattle.board.specs.Resources.{noResource, resourcesOf, isAt, onBoard}
 use Rattle.board.specs.Valid as board
 use Rattle.board.proofs.Meaning.{lookup-is}
-use Rattle.timeline.specs.Valid as timeline
 use Rattle.scheduler.specs.Alone.{companionsOf}
-use Rattle.scheduler.specs.Choosing.{Candidate, sort, Held, heldFor, holdFirst}
-use Rattle.scheduler.specs.Fitting.{numbersOf, durationTogether, heldEntries, among, joinEach, allCompanions, companionEntry, companionEntries, entriesOf, sharesOf}
+use Rattle.scheduler.specs.Choosing.{sort, Held, heldFor, holdFirst}
+use Rattle.scheduler.specs.Fitting.{numbersOf, durationTogether, heldEntry, heldEntries, among, joinEach, allCompanions, companionEntry, companionEntries, entriesOf, sharesOf}
 use Rattle.scheduler.specs.Plain.{startsThere, candidateAt, startable, heldAt}
-use Rattle.scheduler.specs.Lists.{Each, each-end, each-on, each-append, each-take}
+use Rattle.scheduler.specs.Lists.{Each, each-end, each-on, each-append, each-take, each-weaken, each-in-map}
 use Rattle.scheduler.specs.Arrays.{each-cells}
 use Rattle.scheduler.specs.Together.{Sound}
 use Rattle.scheduler.specs.Ranking.{each-sort}
@@ -41,10 +40,6 @@ module _ (b : Board) where
         go true e i = each-on (record { itself = o; companions = and-split (every (onBoard b) (companionsOf r)) _ (and-split (serves q (r .number) (r .kind) (r .skills)) _ e .1) .0 }) i
         go false e i = i
 
-    held-whole : (q : ResourceRequirement) (cs : List Candidate) → Each (λ c. Whole (c .resource)) cs → Each {A = Held} (λ h. Whole (h .resource)) (map (heldFor q) cs)
-    held-whole q [] each-end = each-end
-    held-whole q (c ∷ cs) (each-on p z) = each-on p (held-whole q cs z)
-
     module _ (v : board.valid b ≡ true) where
       on-board : Each (λ r. onBoard b (r .number) ≡ true) (resourcesOf b)
       unfolding isAt
@@ -56,7 +51,7 @@ module _ (b : Board) where
       held-at-whole (q ∷ qs) t =
           let cs = startable b a ready q t (resourcesOf b) in
           each-append {A = Held} (λ h. Whole (h .resource)) (holdFirst q (sort cs)) (heldAt b a ready qs t)
-          (held-whole q (take (q .quantity) (sort cs)) (each-take (λ c. Whole (c .resource)) (q .quantity) (sort cs) (each-sort (λ c. Whole (c .resource)) [] cs each-end (startable-whole q t (resourcesOf b) on-board))))
+          (each-in-map (λ h. Whole (h .resource)) (heldFor q) (take (q .quantity) (sort cs)) (each-take (λ c. Whole (c .resource)) (q .quantity) (sort cs) (each-sort (λ c. Whole (c .resource)) [] cs each-end (startable-whole q t (resourcesOf b) on-board))))
           (held-at-whole qs t)
 
   abbrev On : ℕ → Type 0
@@ -81,22 +76,14 @@ module _ (b : Board) where
       go true x y = x
       go false x y = y
 
-  held-on : (category setup : ℕ) (hs : List Held) → Each (λ h. Whole (h .resource)) hs → Each (λ e. On (e .number)) (heldEntries category setup hs)
-  held-on category setup [] each-end = each-end
-  held-on category setup (h ∷ hs) (each-on p z) = each-on (p .itself) (held-on category setup hs z)
-
-  joined-on : (cs : List ℕ) → Each On cs → Each (λ e. On (e .number)) (map companionEntry cs)
-  joined-on [] each-end = each-end
-  joined-on (c ∷ cs) (each-on p z) = each-on {x = companionEntry c} p (joined-on cs z)
-
   -- the entries are on the board
   pub entries-on : (a : Activity) (hs : List Held) → Each (λ h. Whole (h .resource)) hs → Each (λ e. On (e .number)) (entriesOf a hs)
   unfolding entriesOf companionEntries
   entries-on a hs z =
       let J = joinEach (numbersOf hs) [] (allCompanions hs) in
       each-append (λ e. On (e .number)) (heldEntries (a .category) (durationTogether a hs .setup) hs) (map companionEntry J)
-      (held-on (a .category) (durationTogether a hs .setup) hs z)
-      (joined-on J (join-on (numbersOf hs) [] (allCompanions hs) each-end (companions-on hs z)))
+      (each-in-map (λ e. On (e .number)) (heldEntry (a .category) (durationTogether a hs .setup)) hs (each-weaken (λ h. Whole (h .resource)) (λ h. On (h .resource .number)) hs (λ h w. w .itself) z))
+      (each-in-map (λ e. On (e .number)) companionEntry J (join-on (numbersOf hs) [] (allCompanions hs) each-end (companions-on hs z)))
 
   -- and their diaries keep the rules
   pub entries-sound : (v : board.valid b ≡ true) (a : Activity) (hs : List Held) → Each (λ h. Whole (h .resource)) hs → Sound (sharesOf b (entriesOf a hs))

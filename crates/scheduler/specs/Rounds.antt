@@ -1,22 +1,24 @@
 -- A round: it stays at an instant exactly when there are enough at that instant, and it never passes such an instant.
-use mathlib.Core.Path.{_≡_, refl, sym, ap, _∙_}
+use mathlib.Core.Path.{_≡_, refl, sym, ap, _∙_, subst}
 use mathlib.Core.Bool.{Bool, true, false, cond}
 use mathlib.Core.List.{List, [], _∷_, _++_, map}
 use Prim.Native.Nat.{ℕ, zero, suc, _+_, _≤_}
 use native.Mathlib.Omega.{arith}
 use lib.ListN.{length, length-append, length-map, length-take, take}
-use lib.Seq.{take-append-le}
+use lib.Seq.{take-length, take-append-le}
 use lib.Dec.{leb, ltb}
 use borrow.Author.Tests.{leb-true, le-leb, ltb-false, le-ltb}
 use Rattle.calendar.specs.Search.{greatestOf}
 use Rattle.calendar.specs.Basics.{and-split, and-join, not-both}
+use Rattle.calendar.specs.Meaning.{greatest-each, greatest-most}
 use Rattle.activity.specs.declared.ResourceRequirement.{ResourceRequirement}
 use Rattle.activity.specs.declared.Activity.{Activity}
 use Rattle.board.specs.declared.Board.{Board}
-use Rattle.board.specs.Resources.{resourcesOf}
+use Rattle.board.specs.Resources.{noResource, resourcesOf}
 use Rattle.scheduler.specs.Choosing.{Candidate, sort, candidates, Held, heldFor, holdFirst, Round, tooFew, holds, behind, hold, round, greatestStart}
 use Rattle.scheduler.specs.Plain.{startable, enough, heldAt}
-use Rattle.scheduler.specs.Lists.{Each, each-end, each-on, each-append, each-take, each-left, each-right}
+use Rattle.scheduler.specs.Lists.{Each, each-end, each-on, each-append, each-take, each-in-map, each-of-map, each-left, each-right}
+use Rattle.scheduler.specs.Arrays.{each-at, each-cells}
 use Rattle.scheduler.specs.Ranking.{Low, High, low, high, low-each, high-each, low-high, sort-split, each-sort, length-sort}
 use Rattle.scheduler.specs.Answering.{Kept, low-startable, low-more, candidates-from}
 
@@ -56,11 +58,7 @@ hold-is q cs ks l = rw (le-ltb (length cs) (q .quantity) l) refl
 -- what is known of a candidate's start is known of the held one's
 pub each-hold : (P : ℕ → Type 0) (q : ResourceRequirement) (cs : List Candidate) → Each {A = Candidate} (λ c. P (c .start)) cs → Each {A = Held} (λ h. P (h .start)) (holdFirst q cs)
 unfolding holdFirst
-each-hold P q cs a = go (take (q .quantity) cs) (each-take {A = Candidate} (λ c. P (c .start)) (q .quantity) cs a)
-  where
-    go : (ds : List Candidate) → Each {A = Candidate} (λ c. P (c .start)) ds → Each {A = Held} (λ h. P (h .start)) (map (heldFor q) ds)
-    go [] each-end = each-end
-    go (d ∷ ds) (each-on p b) = each-on p (go ds b)
+each-hold P q cs a = each-in-map (λ h. P (h .start)) (heldFor q) (take (q .quantity) cs) (each-take {A = Candidate} (λ c. P (c .start)) (q .quantity) cs a)
 
 -- the first quantity of two lists, where the first list has so many
 pub each-hold-front : (P : ℕ → Type 0) (q : ResourceRequirement) (xs ys : List Candidate) → q .quantity ≤ length xs → Each {A = Candidate} (λ c. P (c .start)) xs → Each {A = Held} (λ h. P (h .start)) (holdFirst q (xs ++ ys))
@@ -69,11 +67,7 @@ each-hold-front P q xs ys l a = rw (take-append-le (q .quantity) xs ys l) (each-
 
 pub each-held : (P : ℕ → Type 0) (q : ResourceRequirement) (cs : List Candidate) → Each {A = Held} (λ h. P (h .start)) (holdFirst q cs) → Each {A = Candidate} (λ c. P (c .start)) (take (q .quantity) cs)
 unfolding holdFirst
-each-held P q cs a = go (take (q .quantity) cs) a
-  where
-    go : (ds : List Candidate) → Each {A = Held} (λ h. P (h .start)) (map (heldFor q) ds) → Each {A = Candidate} (λ c. P (c .start)) ds
-    go [] each-end = each-end
-    go (d ∷ ds) (each-on p b) = each-on p (go ds b)
+each-held P q cs a = each-of-map (λ h. P (h .start)) (heldFor q) (take (q .quantity) cs) a
 
 -- where the first k all start by t and what stands behind xs starts later, the first k are of xs
 front : (t k : ℕ) (xs ys : List Candidate) → Each (High t) ys → Each (Low t) (take k (xs ++ ys)) → k ≤ length xs + length ys → k ≤ length xs
@@ -82,15 +76,19 @@ front t (suc k) [] [] h a l = absurd (omega arith)
 front t (suc k) [] (y ∷ ys) (each-on p h) (each-on r a) l = absurd (omega arith)
 front t (suc k) (x ∷ xs) ys h (each-on r a) l = omega (arith, front t k xs ys h a (omega arith))
 
-pub greatest-le : (u : ℕ) (hs : List Held) → Each (λ h. h .start ≤ u) hs → greatestStart hs ≤ u
-unfolding greatestStart greatestOf
-greatest-le u [] each-end = omega arith
-greatest-le u (h ∷ hs) (each-on p a) = omega (arith, greatest-le u hs a)
+abbrev noHeld : Held
+noHeld = record { start = 0; resource = noResource; usage = 0 }
 
-pub greatest-each : (u : ℕ) (hs : List Held) → greatestStart hs ≤ u → Each (λ h. h .start ≤ u) hs
-unfolding greatestStart greatestOf
-greatest-each u [] l = each-end
-greatest-each u (h ∷ hs) l = each-on {x = h} (omega arith) (greatest-each u hs (omega arith))
+-- the greatest start is at most u where each is
+pub greatest-le : (u : ℕ) (hs : List Held) → Each (λ h. h .start ≤ u) hs → greatestStart hs ≤ u
+unfolding greatestStart
+greatest-le u hs a = greatest-most (λ (h : Held). h .start) noHeld hs u (each-at (λ h. h .start ≤ u) noHeld hs a)
+
+pub starts-le : (u : ℕ) (hs : List Held) → greatestStart hs ≤ u → Each (λ h. h .start ≤ u) hs
+unfolding greatestStart
+starts-le u hs l =
+    subst (Each (λ h. h .start ≤ u)) (take-length hs)
+    (each-cells (λ h. h .start ≤ u) noHeld (length hs) hs (λ k m n. omega (arith, greatest-each (λ (h : Held). h .start) noHeld hs k n)))
 
 pub greatest-ge : (t : ℕ) (hs : List Held) → Each (λ h. t ≤ h .start) hs → 1 ≤ length hs → t ≤ greatestStart hs
 unfolding greatestStart greatestOf

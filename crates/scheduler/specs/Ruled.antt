@@ -2,8 +2,8 @@
 use mathlib.Core.Path.{_≡_, refl, sym, ap, _∙_}
 use mathlib.Core.Bool.{true, _||_}
 use mathlib.Core.List.{List, [], _∷_, _++_, map}
-use mathlib.Core.Logic.{_⊎_, ⊎-elim}
-use Prim.Native.Nat.{ℕ, zero, suc, _+_, _*_, _≤_, _<_}
+use mathlib.Core.Logic.{⊎-elim}
+use Prim.Native.Nat.{ℕ, zero, suc, _*_, _≤_, _<_}
 use native.Mathlib.Omega.{arith}
 use lib.ListN.{getD, length, take, length-append, length-map, length-take, List·getD-eq-default}
 use lib.Dec.{eqb}
@@ -25,8 +25,8 @@ use Rattle.board.proofs.Facts.{rules}
 use Rattle.board.proofs.Meaning.{lookup-means, resource-of}
 use Rattle.scheduler.specs.Alone.{resourceIn, diaryOf, oneUnit, companionsOf, withCompanions, arrival}
 use Rattle.scheduler.specs.declared.Entry.{Entry}
-use Rattle.scheduler.specs.Fitting.{among, sharesOf}
-use Rattle.scheduler.specs.Lists.{Each, each-end, each-on}
+use Rattle.scheduler.specs.Fitting.{among, shareOf, sharesOf}
+use Rattle.scheduler.specs.Lists.{Each, each-end, each-on, each-weaken, each-in-map}
 use Rattle.scheduler.specs.Arrays.{each-cells}
 use Rattle.scheduler.specs.Together.{Sound}
 use Rattle.scheduler.specs.Answering.{Kept}
@@ -121,15 +121,14 @@ module _ (b : Board) (v : board.valid b ≡ true) where
 
   -- so do the diaries of entries that are on the board
   pub entries-valid : (es : List Entry) → Each (λ e. onBoard b (e .number) ≡ true) es → Sound (sharesOf b es)
-  entries-valid [] each-end = each-end
-  entries-valid (e ∷ es) (each-on o os) = each-on (on-valid (e .number) o) (entries-valid es os)
+  entries-valid es os = each-in-map (λ x. timeline.valid (x .timeline) ≡ true) (shareOf b) es (each-weaken (λ e. onBoard b (e .number) ≡ true) (λ e. timeline.valid (diaryOf b (e .number)) ≡ true) es (λ e o. on-valid (e .number) o) os)
 
   pub on-event : (n x : ℕ) → onBoard b n ≡ true → among x (events (diaryOf b n)) ≡ true → among x (eventsOn (resourcesOf b)) ≡ true
   on-event n x e h =
       let w = on-place n e in
       event-on x (b .len) (b .resources) (w .0) (w .2) (ap (λ (t : ResourceTimeline). among x (events t)) (sym (diary-at b n (w .0) (w .1))) ∙ h)
 
-  companions-sound : (cs : List ℕ) → every (onBoard b) cs ≡ true → Sound (map (oneUnit b) cs)
+  pub companions-sound : (cs : List ℕ) → every (onBoard b) cs ≡ true → Sound (map (oneUnit b) cs)
   unfolding every
   companions-sound [] e = each-end
   companions-sound (c ∷ cs) e = let w = and-split (onBoard b c) (every (onBoard b) cs) e in each-on (on-valid c (w .0)) (companions-sound cs (w .1))

@@ -1,16 +1,15 @@
 -- Places that are known of the numbers on a board.
-use mathlib.Core.Path.{_≡_, refl, sym, ap, _∙_}
-use mathlib.Core.Bool.{true, false}
+use mathlib.Core.Path.{_≡_, sym, ap, _∙_}
+use mathlib.Core.Bool.{true}
 use mathlib.Core.List.{List}
-use Prim.Native.Nat.{ℕ, _≤_, _<_}
+use Prim.Native.Nat.{ℕ, _<_}
 use native.Mathlib.Omega.{arith}
 use lib.ListN.{getD}
 use Rattle.calendar.specs.Search.{Found, nothing, at}
 use Rattle.board.specs.declared.Board.{Board}
-use Rattle.board.specs.Resources.{lookup, isAt, onBoard}
+use Rattle.board.specs.Resources.{lookup, onBoard}
 use Rattle.board.specs.Places.{placeOf}
 use Rattle.board.specs.Valid.{valid}
-use Rattle.board.proofs.Facts.{rules}
 use Rattle.board.proofs.Meaning.{resource-of, lookup-means}
 use Rattle.scheduler.specs.Ruled.{on-place}
 use Rattle.board.specs.Places.{Known}
@@ -21,17 +20,9 @@ unfolding placeOf
 place-known nothing p e l = absurd (omega arith)
 place-known (at q) p e l = ap at (sym e)
 
-place-off : (f : Found) (p : ℕ) → p ≡ placeOf f → 16 ≤ p → ((q : ℕ) → f ≡ at q → q < 16) → isAt f ≡ false
-unfolding placeOf isAt
-place-off nothing p e l h = refl
-place-off (at q) p e l h = absurd (omega (arith, h q refl))
-
 module _ (b : Board) (v : valid b ≡ true) (places : List ℕ) (known : Known b places) (n : ℕ) where
   pub place-on : n < 16 → getD places n 0 < 16 → lookup b n ≡ at (getD places n 0)
   place-on l m = place-known (lookup b n) (getD places n 0) (known n l) m
-
-  pub place-none : n < 16 → 16 ≤ getD places n 0 → onBoard b n ≡ false
-  place-none l m = place-off (lookup b n) (getD places n 0) (known n l) m (λ p e. omega (arith, lookup-means b n p e .0, rules b v .few))
 
   -- a number on the board has its place
   pub number-place : onBoard b n ≡ true → (n < 16) × (lookup b n ≡ at (getD places n 0)) × (getD places n 0 < b .len)

@@ -1,41 +1,40 @@
 -- A resource and its companions by their places: the diaries there are theirs.
 use mathlib.Core.Path.{_≡_, refl, sym, ap, _∙_}
-use mathlib.Core.Bool.{Bool, true, false, cond}
+use mathlib.Core.Bool.{true, false, cond}
 use mathlib.Core.List.{List, [], _∷_, _++_, map, map-append}
-use mathlib.Core.Logic.{⊎-elim}
 use Prim.Native.Nat.{ℕ, zero, suc, _+_, _≤_, _<_}
 use native.Mathlib.Omega.{arith}
 use lib.ListN.{length, getD, take, length-map, length-take}
-use lib.Seq.{getD-take, length-take-le}
+use lib.Seq.{getD-at, getD-take, length-take-le}
 use lib.Dec.{ltb}
 use borrow.Author.Tests.{lt-ltb, le-ltb}
 use Rattle.calendar.specs.Every.{every}
-use Rattle.calendar.specs.Basics.{and-split, lt-or-ge}
+use Rattle.calendar.specs.Basics.{and-split}
 use Rattle.calendar.specs.Search.{Found}
 use Rattle.board.specs.declared.Resource.{Resource}
 use Rattle.board.specs.declared.Board.{Board}
-use Rattle.board.specs.Resources.{noDiary, isAt, onBoard, resourceAt}
+use Rattle.board.specs.Resources.{onBoard, resourceAt}
 use Rattle.board.specs.Valid.{valid}
+use Rattle.board.proofs.Facts.{rules}
+use Rattle.board.proofs.Seeing.{place-on}
 use Rattle.board.proofs.Meaning.{resource-of}
-use Rattle.scheduler.specs.Alone.{oneUnit, resourceIn, companionsOf, withCompanions}
+use Rattle.scheduler.specs.Alone.{Share, oneUnit, resourceIn, companionsOf, withCompanions}
 use Rattle.scheduler.specs.Arrays.{take-next, every-next, every-off}
-use Rattle.scheduler.specs.Shares.{timelinesOf, unitsOf}
+use Rattle.scheduler.specs.Shares.{noShare}
 use Rattle.board.specs.Places.{Known}
 use Rattle.seats.specs.Seats.{placeIn, placed, seatOf}
-use Rattle.seats.proofs.Knowing.{place-on, place-none, number-place}
+use Rattle.seats.proofs.Knowing.{number-place}
 
--- one put behind a list
-pub behind-last : (xs : List ℕ) (p d i : ℕ) → length xs ≡ i → getD (xs ++ (p ∷ [])) i d ≡ p
-behind-last [] p d zero e = refl
-behind-last [] p d (suc i) e = absurd (omega arith)
-behind-last (x ∷ xs) p d zero e = absurd (omega arith)
-behind-last (x ∷ xs) p d (suc i) e = behind-last xs p d i (omega arith)
-
-pub behind-other : (xs : List ℕ) (p d i : ℕ) → (length xs ≡ i → ⊥) → getD (xs ++ (p ∷ [])) i d ≡ getD xs i d
+-- one put behind a list is another cell
+behind-other : (xs : List ℕ) (p d i : ℕ) → (length xs ≡ i → ⊥) → getD (xs ++ (p ∷ [])) i d ≡ getD xs i d
 behind-other [] p d zero e = absurd (e refl)
 behind-other [] p d (suc i) e = refl
 behind-other (x ∷ xs) p d zero e = refl
 behind-other (x ∷ xs) p d (suc i) e = behind-other xs p d i (λ (z : length xs ≡ i). e (ap suc z))
+
+-- units of the diary at a place
+abbrev pub shareAt : Board → ℕ → ℕ → Share
+shareAt b place units = record { timeline = resourceAt b place .timeline; units = units }
 
 -- the first j companions have their places
 pub record Sits (own : ℕ) (cs places : List ℕ) (i seat j : ℕ) : Type 0 where
@@ -69,7 +68,7 @@ module _ (own : ℕ) (cs places : List ℕ) (i seat j : ℕ) (l : j < length cs)
 
     -- the next is the one wanted, or another
     pub sits-here : j + 1 ≡ i → Sits own cs places i place (j + 1)
-    sits-here e = record { all = next; here = rw more (sym (behind-last front place own i (omega (arith, long)))) }
+    sits-here e = record { all = next; here = rw more (sym (getD-at front place [] own i (omega (arith, long)))) }
 
     pub sits-on : (j + 1 ≡ i → ⊥) → Sits own cs places i seat (j + 1)
     sits-on e = record { all = next; here = rw more (s .here ∙ sym (behind-other front place own i (λ (z : length front ≡ i). e (sym long ∙ z)))) }
@@ -86,12 +85,7 @@ sits-all own cs places i seat n s = rw (s .all) (s .here)
 module _ (b : Board) (v : valid b ≡ true) (places : List ℕ) (known : Known b places) where
   -- a number has a place where it is on the board
   placed-is : (n : ℕ) → n ≤ 15 → placed places n ≡ onBoard b n
-  unfolding isAt
-  placed-is n l =
-      ⊎-elim
-      (λ (m : getD places n 0 < 16). lt-ltb _ _ m ∙ sym (ap isAt (place-on b v places known n (omega arith) m)))
-      (λ (m : 16 ≤ getD places n 0). le-ltb _ _ m ∙ sym (place-none b v places known n (omega arith) m))
-      (lt-or-ge (getD places n 0) 16)
+  placed-is n l = ap (λ (p : ℕ). ltb p 16) (known n (omega arith)) ∙ place-on b (b .len) n (rules b v .few)
 
   every-placed : (cs : List ℕ) → ((k : ℕ) → k < length cs → getD cs k 0 ≤ 15) → every (placed places) cs ≡ every (onBoard b) cs
   unfolding every
@@ -100,13 +94,13 @@ module _ (b : Board) (v : valid b ≡ true) (places : List ℕ) (known : Known b
 
   -- the k-th companion's place, and its diary
   companion-at : (cs : List ℕ) → ((k : ℕ) → k < length cs → getD cs k 0 ≤ 15) → every (onBoard b) cs ≡ true → (d k : ℕ) → k < length cs
-      → (getD (map (placeIn places) cs) k d < b .len) × (getD (timelinesOf (map (oneUnit b) cs)) k noDiary ≡ resourceAt b (getD (map (placeIn places) cs) k d) .timeline) × (getD (unitsOf (map (oneUnit b) cs)) k 0 ≡ 1)
+      → (getD (map (placeIn places) cs) k d < b .len) × (getD (map (oneUnit b) cs) k noShare ≡ shareAt b (getD (map (placeIn places) cs) k d) 1)
   unfolding every resourceIn
   companion-at [] small e d k l = absurd (omega arith)
   companion-at (c ∷ cs) small e d zero l =
       let on = and-split (onBoard b c) (every (onBoard b) cs) e .0 in
       let w = number-place b v places known c on in
-      (w .2, ap (λ (f : Found). resourceIn b f .timeline) (w .1), refl)
+      (w .2, ap (λ (f : Found). record { timeline = resourceIn b f .timeline; units = 1 }) (w .1))
   companion-at (c ∷ cs) small e d (suc k) l = companion-at cs (λ j m. small (suc j) (omega arith)) (and-split (onBoard b c) (every (onBoard b) cs) e .1) d k (omega arith)
 
   module _ (own : ℕ) (there : own < b .len) (usage : ℕ) where
@@ -125,15 +119,15 @@ module _ (b : Board) (v : valid b ≡ true) (places : List ℕ) (known : Known b
 
     -- the i-th of the resource and its companions
     module _ (on : every (onBoard b) (companionsOf r) ≡ true) (i : ℕ) (l : i < length (withCompanions b r usage)) where
-      seat : (getD (own ∷ map (placeIn places) (companionsOf r)) i own < b .len) × (resourceAt b (getD (own ∷ map (placeIn places) (companionsOf r)) i own) .timeline ≡ getD (timelinesOf (withCompanions b r usage)) i noDiary) × (cond (ltb 0 i) 1 usage ≡ getD (unitsOf (withCompanions b r usage)) i 0)
+      seat : (getD (own ∷ map (placeIn places) (companionsOf r)) i own < b .len) × (shareAt b (getD (own ∷ map (placeIn places) (companionsOf r)) i own) (cond (ltb 0 i) 1 usage) ≡ getD (withCompanions b r usage) i noShare)
       unfolding withCompanions
       seat = go i l
         where
-          go : (i : ℕ) → i < suc (length (map (oneUnit b) (companionsOf r))) → (getD (own ∷ map (placeIn places) (companionsOf r)) i own < b .len) × (resourceAt b (getD (own ∷ map (placeIn places) (companionsOf r)) i own) .timeline ≡ getD (r .timeline ∷ timelinesOf (map (oneUnit b) (companionsOf r))) i noDiary) × (cond (ltb 0 i) 1 usage ≡ getD (usage ∷ unitsOf (map (oneUnit b) (companionsOf r))) i 0)
-          go zero m = (there, refl, refl)
+          go : (i : ℕ) → i < suc (length (map (oneUnit b) (companionsOf r))) → (getD (own ∷ map (placeIn places) (companionsOf r)) i own < b .len) × (shareAt b (getD (own ∷ map (placeIn places) (companionsOf r)) i own) (cond (ltb 0 i) 1 usage) ≡ getD (record { timeline = r .timeline; units = usage } ∷ map (oneUnit b) (companionsOf r)) i noShare)
+          go zero m = (there, refl)
           go (suc k) m =
               let w = companion-at (companionsOf r) small on own k (omega (arith, length-map (companionsOf r) (oneUnit b))) in
-              (w .0, sym (w .1), ap (λ (c : Bool). cond c 1 usage) (lt-ltb 0 (suc k) (omega arith)) ∙ sym (w .2))
+              (w .0, rw (lt-ltb 0 (suc k) (omega arith)) (sym (w .1)))
 
       seat-is : seatOf own (companionsOf r) places i ≡ getD (own ∷ map (placeIn places) (companionsOf r)) i own
       unfolding seatOf
@@ -142,8 +136,5 @@ module _ (b : Board) (v : valid b ≡ true) (places : List ℕ) (known : Known b
       pub seat-there : seatOf own (companionsOf r) places i < b .len
       seat-there = rw seat-is (seat .0)
 
-      pub seat-diary : resourceAt b (seatOf own (companionsOf r) places i) .timeline ≡ getD (timelinesOf (withCompanions b r usage)) i noDiary
-      seat-diary = rw seat-is (seat .1)
-
-      pub seat-units : cond (ltb 0 i) 1 usage ≡ getD (unitsOf (withCompanions b r usage)) i 0
-      seat-units = seat .2
+      pub seat-share : shareAt b (seatOf own (companionsOf r) places i) (cond (ltb 0 i) 1 usage) ≡ getD (withCompanions b r usage) i noShare
+      seat-share = rw seat-is (seat .1)

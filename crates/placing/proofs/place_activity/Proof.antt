@@ -5,7 +5,6 @@ use Rattle.placing.proofs.place_activity.Statement.{statement}
 use Rattle.placing.proofs.place_activity.Tie as tie
 use mathlib.Core.Path.{_≡_, refl, sym, ap, _∙_}
 use mathlib.Core.Bool.{true, false}
-use mathlib.Core.List.{_∷_}
 use mathlib.Core.Logic.{⊎-elim}
 use native.Mathlib.Omega.{arith}
 use borrow.Author.Tests.{not-true, not-false}
@@ -20,10 +19,9 @@ use Rattle.scheduler.specs.Alone.{spanOf}
 use Rattle.scheduler.specs.Choosing.{noChoice, chosen, choosing}
 use Rattle.scheduler.specs.Fitting.{sharesOf}
 use Rattle.scheduler.specs.Holds.{heldTo}
-use Rattle.scheduler.specs.Owning.{ownShare}
 use Rattle.scheduler.specs.Placing.{slateAfter}
-use Rattle.fitting.specs.Jointly.{fitOf}
-use Rattle.placing.specs.Steps.{closing, orderRefusal}
+use Rattle.fitting.specs.Closing.{closing, fitOf}
+use Rattle.placing.specs.Steps.{orderRefusal}
 use Rattle.placing.specs.Told.{told}
 use Rattle.placing.proofs.Telling.{order-right, fitted-placed, fitted-none}
 use Rattle.placing.proofs.Entering.{entered}
@@ -160,7 +158,7 @@ fit-resumable-requires c κs =
     let o = order-right (a .a) (a .ready) (length (a .slate .now)) (v .1) in
     let x = accepted (a .a) (a .ready) (o .2) in
     let s = joined (c .before .before) in
-    ((v .0, c .before .before .before .before .before .before .before .before .before .before .before .before .before .before .places-of .ensures .1 (v .0) .0, o .0, s .entries .few, s .instant, s .short), s .entries .each)
+    (v .0, c .before .before .before .before .before .before .before .before .before .before .before .before .before .before .places-of .ensures .1 (v .0) .0, o .0, s .entries, s .instant, s .short)
 
 fit-unbroken-requires : tie.Need-fit-unbroken-requires
 fit-unbroken-requires c κs =
@@ -169,11 +167,10 @@ fit-unbroken-requires c κs =
     let o = order-right (a .a) (a .ready) (length (a .slate .now)) (v .1) in
     let x = accepted (a .a) (a .ready) (o .2) in
     let s = joined (c .before .before) in
-    ((v .0, c .before .before .before .before .before .before .before .before .before .before .before .before .before .before .places-of .ensures .1 (v .0) .0, o .0, s .entries .few, s .instant, s .short), s .entries .each)
+    (v .0, c .before .before .before .before .before .before .before .before .before .before .before .before .before .before .places-of .ensures .1 (v .0) .0, o .0, s .entries, s .instant, s .short)
 
 -- the fit of the two as the order says
-fit-is : (c : tie.Joined5) → fitOf (c .if5 .f) ≡ closing (c .before .before .before .before .before .before .before .before .before .before .before .before .before .before .before .args .a .resumable) (ownShare (c .before .before .before .before .before .before .before .before .before .before .before .before .before .before .before .args .a .calendar) ∷ sharesOf (c .before .before .before .before .before .before .before .before .before .before .before .before .before .before .before .args .b) (take (c .before .before .if3 .e .count) (c .before .before .if3 .e .entries))) (c .before .before .if3 .span) (c .before .before .if3 .t)
-unfolding closing
+fit-is : (c : tie.Joined5) → fitOf (c .if5 .f) ≡ closing (c .before .before .before .before .before .before .before .before .before .before .before .before .before .before .before .args .a .resumable) (sharesOf (c .before .before .before .before .before .before .before .before .before .before .before .before .before .before .before .args .b) (take (c .before .before .if3 .e .count) (c .before .before .if3 .e .entries))) (c .before .before .before .before .before .before .before .before .before .before .before .before .before .before .before .args .a .calendar) (c .before .before .if3 .span) (c .before .before .if3 .t)
 fit-is c =
     ⊎-elim
     (λ w.

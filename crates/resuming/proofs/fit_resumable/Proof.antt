@@ -4,37 +4,46 @@ use borrow.Author.Needs.{needs}
 use borrow.Author.Tests.{not-true, not-false}
 use Rattle.resuming.proofs.fit_resumable.Statement.{statement}
 use Rattle.resuming.proofs.fit_resumable.Tie as tie
-use mathlib.Core.Path.{_≡_, refl, sym, ap, _∙_}
+use mathlib.Core.Path.{_≡_, refl, sym, ap, _∙_, subst}
 use mathlib.Core.Bool.{Bool, true}
 use mathlib.Core.List.{List, _∷_}
 use mathlib.Core.Logic.{inl, inr, ⊎-elim}
 use Prim.Native.Nat.{ℕ, _+_, _≤_, _<_}
 use native.Mathlib.Omega.{arith}
-use lib.ListN.{length, getD, take, length-map}
+use lib.ListN.{length, getD}
 use Rattle.calendar.specs.declared.Calendar.{Calendar}
+use Rattle.calendar.specs.Search.{nothing}
 use Rattle.timeline.specs.declared.ResourceTimeline.{ResourceTimeline}
-use Rattle.board.specs.declared.Board.{Board}
-use Rattle.board.specs.Resources.{noDiary}
-use Rattle.scheduler.specs.declared.Entry.{Entry}
+use Rattle.timeline.specs.Ask as asking
+use Rattle.timeline.specs.Diary.{diary}
+use Rattle.timeline.specs.Valid.{valid}
 use Rattle.scheduler.specs.Alone.{Share}
-use Rattle.scheduler.specs.Fitting.{sharesOf}
-use Rattle.scheduler.specs.Shares.{sharesTo}
-use Rattle.scheduler.specs.Owning.{ownShare}
-use Rattle.fitting.specs.Jointly.{fitOf, jointly, ended}
-use Rattle.fitting.proofs.Reading.{Asks, those, diaries, wants, instants, asks-own, asks-shares, asks-wanted, number-small, place-small, read-diary, read-units, own-diary, own-units}
+use Rattle.scheduler.specs.Fitting.{endOf}
+use Rattle.scheduler.specs.Shares.{noShare}
+use Rattle.scheduler.specs.Owning.{ownShare, leastOn, fitting-on}
+use Rattle.fitting.specs.Closing.{withEnd, closing, fitOf}
+use Rattle.fitting.proofs.Reading.{Asks, those, instants, asks-own, asks-long, asks-sound, asks-kept, number-small, place-small, read-share, own-share}
 use Rattle.resuming.specs.declared.Trial.{Trial}
+use Rattle.resuming.proofs.Resuming.{Least}
 use Rattle.resuming.proofs.Walking.{State, state-start, state-cell, state-asked, state-found, state-over, state-begun, Onward, onward-laid, onward-next, gathers-ruled, left, left-asked, left-laid, left-on, event-stop}
 
 abbrev Inv-loop : tie.InvT-loop
 Inv-loop work from b e places first n cs₀ edges₀ len₀ t₀ i₀ cs edges len t i =
-    Asks b (e .entries) (e .count) places first × State (diaries b (e .entries) (e .count) first) (wants b (e .entries) (e .count) first) (e .count + 1) work from (instants b (e .entries) (e .count) first) cs edges len (t .at) (t .end) (t .free) (t .next) (t .laid) i
+    Asks b (e .entries) (e .count) places first × State (those b (e .entries) (e .count) first) (e .count + 1) work from (instants b (e .entries) (e .count) first) cs edges len (t .at) (t .end) (t .free) (t .next) (t .laid) i
 
 abbrev μ-loop : tie.MeasureT-loop
 μ-loop work from b e places first n cs₀ edges₀ len₀ t₀ i₀ cs edges len t i = left (instants b (e .entries) (e .count) first) (t .at) (t .laid) (e .count + 1) i
 
-answered : (work from : ℕ) (b : Board) (es : List Entry) (n : ℕ) (first : ResourceTimeline) (places : List ℕ) → Asks b es n places first → (own : Calendar) → first ≡ ownShare own .timeline
-    → ended (sharesTo (diaries b es n first) (wants b es n first) (n + 1)) work (jointly (sharesTo (diaries b es n first) (wants b es n first) (n + 1)) work from) ≡ ended (ownShare own ∷ sharesOf b (take n es)) work (jointly (ownShare own ∷ sharesOf b (take n es)) work from)
-answered work from b es n first places a own e = ap (λ (xs : List Share). ended xs work (jointly xs work from)) (asks-shares b es n first places a own e)
+module _ (work from : ℕ) (xs : List Share) (own : Calendar) (first : ResourceTimeline) (e : first ≡ ownShare own .timeline) where
+  answered : (x end : ℕ) → Least (record { timeline = first; units = 1 } ∷ xs) work from x end → asking.fit x end ≡ closing true xs own work from
+  unfolding closing withEnd endOf asking.ended diary
+  answered x end l =
+      let k : Least (ownShare own ∷ xs) work from x end = rw e at l in
+      sym (ap (withEnd true xs own work) (fitting-on true xs own work from ∙ k .start) ∙ ap (asking.ended x) (k .end))
+
+  answered-none : leastOn true (record { timeline = first; units = 1 } ∷ xs) work from ≡ nothing → asking.none ≡ closing true xs own work from
+  unfolding closing withEnd
+  answered-none l = sym (ap (withEnd true xs own work) (fitting-on true xs own work from ∙ rw e at l))
 
 own-timeline-requires : tie.Need-own-timeline-requires Inv-loop μ-loop
 own-timeline-requires c κs = search needs
@@ -50,8 +59,8 @@ loop-holds c =
     let q = c .before .before .pre in
     let a = c .before .before .args in
     let u = c .untried .ensures in
-    let asks = asks-own (a .t1) (a .t2 .entries) (a .t2 .count) (a .t3) (a .own) _ (c .before .own-timeline .ensures) (q .0 .0) (q .0 .1) (q .0 .2) (q .0 .3) (simp length-map at (c .before .before .good .1 .0 .1 .1 .0 .1 .0 .1)) (q .1) in
-    (asks, state-start _ _ _ _ _ _ _ _ _ _ _ _ _ _ refl refl (u .0) (u .1) (u .2) (u .3) (omega (arith, q .0 .4)))
+    let asks = asks-own (a .t1) (a .t2 .entries) (a .t2 .count) (a .t3) (a .own) _ (c .before .own-timeline .ensures) (q .0) (q .1) (q .2) (q .3) in
+    (asks, state-start _ _ _ _ _ _ _ _ _ _ _ _ _ refl refl (u .0) (u .1) (u .2) (u .3) (omega (arith, q .4)))
 
 sub-x : tie.Need-sub-x Inv-loop μ-loop
 sub-x c = search needs
@@ -96,15 +105,15 @@ element-copy-out-r c =
     let p = c .before .before .if3 .taken in
     place-small (a .t1) (a .t2 .entries) (a .t2 .count) first (a .t3) (k .inv .0) (k .i) p l
 
-joined : (c : tie.Joined3 Inv-loop μ-loop) → (c .if3 .d ≡ getD (diaries (c .before .before .before .before .before .before .before .args .t1) (c .before .before .before .before .before .before .before .args .t2 .entries) (c .before .before .before .before .before .before .before .args .t2 .count) (c .before .before .before .before .before .before .own-timeline .result)) (c .before .before .before .before .loop .i) noDiary) × (c .if3 .units ≡ getD (wants (c .before .before .before .before .before .before .before .args .t1) (c .before .before .before .before .before .before .before .args .t2 .entries) (c .before .before .before .before .before .before .before .args .t2 .count) (c .before .before .before .before .before .before .own-timeline .result)) (c .before .before .before .before .loop .i) 0)
+joined : (c : tie.Joined3 Inv-loop μ-loop) → record { timeline = c .if3 .d; units = c .if3 .units } ≡ getD (those (c .before .before .before .before .before .before .before .args .t1) (c .before .before .before .before .before .before .before .args .t2 .entries) (c .before .before .before .before .before .before .before .args .t2 .count) (c .before .before .before .before .before .before .own-timeline .result)) (c .before .before .before .before .loop .i) noShare
 joined c =
     let a = c .before .before .before .before .before .before .before .args in
     let k = c .before .before .before .before .loop in
     let first = c .before .before .before .before .before .before .own-timeline .result in
     let l = c .before .if2 .taken in
     ⊎-elim
-    (λ w. (w .6 ∙ read-diary (a .t1) (a .t2 .entries) (a .t2 .count) first (a .t3) (k .inv .0) (k .i) (w .0 .taken) l, w .5 ∙ read-units (a .t1) (a .t2 .entries) (a .t2 .count) first (a .t3) (k .inv .0) (k .i) (w .0 .taken) l))
-    (λ w. (w .2 ∙ own-diary (a .t1) (a .t2 .entries) (a .t2 .count) first (a .t3) (k .inv .0) (k .i) (w .0 .left), w .1 ∙ own-units (a .t1) (a .t2 .entries) (a .t2 .count) first (a .t3) (k .inv .0) (k .i) (w .0 .left)))
+    (λ w. rw (w .6, w .5) (read-share (a .t1) (a .t2 .entries) (a .t2 .count) first (a .t3) (k .inv .0) (k .i) (w .0 .taken) l))
+    (λ w. rw (w .2, w .1) (own-share (a .t1) (a .t2 .entries) (a .t2 .count) first (a .t3) (k .inv .0) (k .i) (w .0 .left)))
     (c .if3 .came)
 
 asked-requires : tie.Need-asked-requires Inv-loop μ-loop
@@ -116,7 +125,7 @@ asked-requires c κs =
     let j = joined (c .before) in
     let h = c .before .before .before .if1 .taken in
     let t = k .inv .1 .walks (c .if4 .taken) .tried h in
-    (rw (j .0) (asks-wanted (a .t1) (a .t2 .entries) (a .t2 .count) first (a .t3) (k .inv .0) .kept (k .i) l), t .later, t .most)
+    (subst (λ (x : Share). valid (x .timeline) ≡ true) (sym j) (asks-kept (a .t1) (a .t2 .entries) (a .t2 .count) first (a .t3) (k .inv .0) (k .i) l), t .later, t .most)
 
 mul-cs : tie.Need-mul-cs Inv-loop μ-loop
 mul-cs c = search needs
@@ -155,8 +164,8 @@ loop-again c =
           (λ w.
           let r = w .1 .result in
           let u = w .1 .ensures in
-          rw (w .2, w .3) (state-asked (diaries (a .t1) (a .t2 .entries) (a .t2 .count) first) (wants (a .t1) (a .t2 .entries) (a .t2 .count) first) (a .t2 .count + 1) (a .work) (a .from) (instants (a .t1) (a .t2 .entries) (a .t2 .count) first) (k .cs) (k .edges) (k .len) (k .t .at) (k .t .end) (k .t .free) (k .t .next) (k .t .laid) (k .i) s l (asks-wanted (a .t1) (a .t2 .entries) (a .t2 .count) first (a .t3) (k .inv .0)) (w .0 .taken) h (r .at) (r .end) (r .free) (r .next) (r .laid) _ _ (j .0) (j .1) (u .0 .0) (u .0 .1) (u .0 .2) (u .0 .3) (u .1 .0) (u .1 .1) (⊎-elim inl (λ z. inr (event-stop (those (a .t1) (a .t2 .entries) (a .t2 .count) first) (k .i) (r .next) _ (j .0) (omega (arith, u .1 .0)) z)) (u .1 .3)) (u .1 .2)))
-          (λ w. rw (w .2, w .3) (state-cell (diaries (a .t1) (a .t2 .entries) (a .t2 .count) first) (wants (a .t1) (a .t2 .entries) (a .t2 .count) first) (a .t2 .count + 1) (a .work) (a .from) (instants (a .t1) (a .t2 .entries) (a .t2 .count) first) (k .cs) (k .edges) (k .len) (k .t .at) (k .t .end) (k .t .free) (k .t .next) (k .t .laid) (k .i) s l (w .0 .left) (omega (arith, k .inv .0 .few)) _ (ap (λ (d : ResourceTimeline). d .calendar) (j .0))))
+          rw (w .2, w .3) (state-asked (those (a .t1) (a .t2 .entries) (a .t2 .count) first) (a .t2 .count + 1) (a .work) (a .from) (instants (a .t1) (a .t2 .entries) (a .t2 .count) first) (k .cs) (k .edges) (k .len) (k .t .at) (k .t .end) (k .t .free) (k .t .next) (k .t .laid) (k .i) s l (asks-sound (a .t1) (a .t2 .entries) (a .t2 .count) first (a .t3) (k .inv .0)) (asks-long (a .t1) (a .t2 .entries) (a .t2 .count) first (a .t3) (k .inv .0)) (w .0 .taken) h (r .at) (r .end) (r .free) (r .next) (r .laid) _ _ (ap (λ (x : Share). x .timeline) j) (ap (λ (x : Share). x .units) j) (u .0 .0) (u .0 .1) (u .0 .2) (u .0 .3) (u .1 .0) (u .1 .1) (⊎-elim inl (λ z. inr (event-stop (those (a .t1) (a .t2 .entries) (a .t2 .count) first) (k .i) (r .next) _ (ap (λ (x : Share). x .timeline) j) (omega (arith, u .1 .0)) z)) (u .1 .3)) (u .1 .2)))
+          (λ w. rw (w .2, w .3) (state-cell (those (a .t1) (a .t2 .entries) (a .t2 .count) first) (a .t2 .count + 1) (a .work) (a .from) (instants (a .t1) (a .t2 .entries) (a .t2 .count) first) (k .cs) (k .edges) (k .len) (k .t .at) (k .t .end) (k .t .free) (k .t .next) (k .t .laid) (k .i) s l (w .0 .left) (omega (arith, k .inv .0 .entries .few)) _ (ap (λ (x : Share). x .timeline .calendar) j)))
           (c .if4 .came),
     )
 
@@ -168,7 +177,7 @@ returns c =
     let first = c .before .before .before .before .before .before .own-timeline .result in
     let l = c .before .if2 .left in
     let h = c .before .before .if1 .taken in
-    state-found (diaries (a .t1) (a .t2 .entries) (a .t2 .count) first) (wants (a .t1) (a .t2 .entries) (a .t2 .count) first) (a .t2 .count + 1) (a .work) (a .from) (instants (a .t1) (a .t2 .entries) (a .t2 .count) first) (asks-wanted (a .t1) (a .t2 .entries) (a .t2 .count) first (a .t3) (k .inv .0)) (k .cs) (k .edges) (k .len) (k .t .at) (k .t .end) (k .t .free) (k .t .next) (k .t .laid) (k .i) (k .inv .1) l (c .if5 .taken) h ∙ answered (a .work) (a .from) (a .t1) (a .t2 .entries) (a .t2 .count) first (a .t3) (k .inv .0) (a .own) (c .before .before .before .before .before .before .own-timeline .ensures)
+    answered (a .work) (a .from) _ (a .own) first (c .before .before .before .before .before .before .own-timeline .ensures) _ _ (state-found (those (a .t1) (a .t2 .entries) (a .t2 .count) first) (a .t2 .count + 1) (a .work) (a .from) (instants (a .t1) (a .t2 .entries) (a .t2 .count) first) (asks-sound (a .t1) (a .t2 .entries) (a .t2 .count) first (a .t3) (k .inv .0)) (asks-long (a .t1) (a .t2 .entries) (a .t2 .count) first (a .t3) (k .inv .0)) (k .cs) (k .edges) (k .len) (k .t .at) (k .t .end) (k .t .free) (k .t .next) (k .t .laid) (k .i) (k .inv .1) l (c .if5 .taken) h)
 
 joint-time-requires : tie.Need-joint-time-requires Inv-loop μ-loop
 joint-time-requires c κs =
@@ -177,9 +186,9 @@ joint-time-requires c κs =
     let first = c .before .before .before .before .before .before .before .before .own-timeline .result in
     let q = c .before .before .before .before .before .before .before .before .before .pre in
     let l = c .before .before .before .if2 .left in
-    (omega (arith, q .0 .3), omega (arith, q .0 .4), gathers-ruled (diaries (a .t1) (a .t2 .entries) (a .t2 .count) first) (wants (a .t1) (a .t2 .entries) (a .t2 .count) first) (a .t2 .count + 1) (a .work) (a .from) (instants (a .t1) (a .t2 .entries) (a .t2 .count) first) (asks-wanted (a .t1) (a .t2 .entries) (a .t2 .count) first (a .t3) (k .inv .0)) (k .cs) (k .t .at) (k .t .free) (k .t .next) (k .i) (k .inv .1 .gathers (not-true _ (c .if6 .taken))) l)
+    (omega (arith, q .3 .few), omega (arith, q .4), gathers-ruled (those (a .t1) (a .t2 .entries) (a .t2 .count) first) (a .t2 .count + 1) (a .work) (a .from) (instants (a .t1) (a .t2 .entries) (a .t2 .count) first) (asks-sound (a .t1) (a .t2 .entries) (a .t2 .count) first (a .t3) (k .inv .0)) (asks-long (a .t1) (a .t2 .entries) (a .t2 .count) first (a .t3) (k .inv .0)) (k .cs) (k .t .at) (k .t .free) (k .t .next) (k .i) (k .inv .1 .gathers (not-true _ (c .if6 .taken))) l)
 
-laid-out : (c : tie.Joined6 Inv-loop μ-loop) → Onward (diaries (c .before .before .before .before .before .before .before .before .before .args .t1) (c .before .before .before .before .before .before .before .before .before .args .t2 .entries) (c .before .before .before .before .before .before .before .before .before .args .t2 .count) (c .before .before .before .before .before .before .before .before .own-timeline .result)) (wants (c .before .before .before .before .before .before .before .before .before .args .t1) (c .before .before .before .before .before .before .before .before .before .args .t2 .entries) (c .before .before .before .before .before .before .before .before .before .args .t2 .count) (c .before .before .before .before .before .before .before .before .own-timeline .result)) (c .before .before .before .before .before .before .before .before .before .args .t2 .count + 1) (c .before .before .before .before .before .before .before .before .before .args .work) (c .before .before .before .before .before .before .before .before .before .args .from) (instants (c .before .before .before .before .before .before .before .before .before .args .t1) (c .before .before .before .before .before .before .before .before .before .args .t2 .entries) (c .before .before .before .before .before .before .before .before .before .args .t2 .count) (c .before .before .before .before .before .before .before .before .own-timeline .result)) (c .if6 .edges) (c .if6 .len) (c .before .before .before .before .before .before .loop .t .next) × ((x : ℕ) (q : Bool) → x ≡ c .before .before .before .before .before .before .loop .t .next → q ≡ true → left (instants (c .before .before .before .before .before .before .before .before .before .args .t1) (c .before .before .before .before .before .before .before .before .before .args .t2 .entries) (c .before .before .before .before .before .before .before .before .before .args .t2 .count) (c .before .before .before .before .before .before .before .before .own-timeline .result)) x q (c .before .before .before .before .before .before .before .before .before .args .t2 .count + 1) 0 < left (instants (c .before .before .before .before .before .before .before .before .before .args .t1) (c .before .before .before .before .before .before .before .before .before .args .t2 .entries) (c .before .before .before .before .before .before .before .before .before .args .t2 .count) (c .before .before .before .before .before .before .before .before .own-timeline .result)) (c .before .before .before .before .before .before .loop .t .at) (c .before .before .before .before .before .before .loop .t .laid) (c .before .before .before .before .before .before .before .before .before .args .t2 .count + 1) (c .before .before .before .before .before .before .loop .i))
+laid-out : (c : tie.Joined6 Inv-loop μ-loop) → Onward (those (c .before .before .before .before .before .before .before .before .before .args .t1) (c .before .before .before .before .before .before .before .before .before .args .t2 .entries) (c .before .before .before .before .before .before .before .before .before .args .t2 .count) (c .before .before .before .before .before .before .before .before .own-timeline .result)) (c .before .before .before .before .before .before .before .before .before .args .t2 .count + 1) (c .before .before .before .before .before .before .before .before .before .args .work) (c .before .before .before .before .before .before .before .before .before .args .from) (instants (c .before .before .before .before .before .before .before .before .before .args .t1) (c .before .before .before .before .before .before .before .before .before .args .t2 .entries) (c .before .before .before .before .before .before .before .before .before .args .t2 .count) (c .before .before .before .before .before .before .before .before .own-timeline .result)) (c .if6 .edges) (c .if6 .len) (c .before .before .before .before .before .before .loop .t .next) × ((x : ℕ) (q : Bool) → x ≡ c .before .before .before .before .before .before .loop .t .next → q ≡ true → left (instants (c .before .before .before .before .before .before .before .before .before .args .t1) (c .before .before .before .before .before .before .before .before .before .args .t2 .entries) (c .before .before .before .before .before .before .before .before .before .args .t2 .count) (c .before .before .before .before .before .before .before .before .own-timeline .result)) x q (c .before .before .before .before .before .before .before .before .before .args .t2 .count + 1) 0 < left (instants (c .before .before .before .before .before .before .before .before .before .args .t1) (c .before .before .before .before .before .before .before .before .before .args .t2 .entries) (c .before .before .before .before .before .before .before .before .before .args .t2 .count) (c .before .before .before .before .before .before .before .before .own-timeline .result)) (c .before .before .before .before .before .before .loop .t .at) (c .before .before .before .before .before .before .loop .t .laid) (c .before .before .before .before .before .before .before .before .before .args .t2 .count + 1) (c .before .before .before .before .before .before .loop .i))
 laid-out c =
     let a = c .before .before .before .before .before .before .before .before .before .args in
     let k = c .before .before .before .before .before .before .loop in
@@ -189,18 +198,18 @@ laid-out c =
     let h = c .before .before .before .before .if1 .taken in
     let f = c .before .before .if5 .left in
     let s = k .inv .1 in
-    let few : a .t2 .count + 1 ≤ 25 = omega (arith, q .0 .3) in
+    let few : a .t2 .count + 1 ≤ 25 = omega (arith, q .3 .few) in
     ⊎-elim
     (λ w.
     let e = not-true _ (w .0 .taken) in
     let long : length (w .1 .result .edges) ≡ 3201 = search needs in (
-      rw (w .3, w .4) (onward-laid (diaries (a .t1) (a .t2 .entries) (a .t2 .count) first) (wants (a .t1) (a .t2 .entries) (a .t2 .count) first) (a .t2 .count + 1) (a .work) (a .from) (instants (a .t1) (a .t2 .entries) (a .t2 .count) first) (asks-wanted (a .t1) (a .t2 .entries) (a .t2 .count) first (a .t3) (k .inv .0)) (k .cs) (k .edges) (k .len) (k .t .at) (k .t .end) (k .t .free) (k .t .next) (k .t .laid) (k .i) s l e (q .0 .4) few (w .1 .result .edges) (w .1 .result .len) long (w .1 .ensures .0) (w .1 .ensures .1)),
+      rw (w .3, w .4) (onward-laid (those (a .t1) (a .t2 .entries) (a .t2 .count) first) (a .t2 .count + 1) (a .work) (a .from) (instants (a .t1) (a .t2 .entries) (a .t2 .count) first) (asks-sound (a .t1) (a .t2 .entries) (a .t2 .count) first (a .t3) (k .inv .0)) (asks-long (a .t1) (a .t2 .entries) (a .t2 .count) first (a .t3) (k .inv .0)) (k .cs) (k .edges) (k .len) (k .t .at) (k .t .end) (k .t .free) (k .t .next) (k .t .laid) (k .i) s l e (q .4) few (w .1 .result .edges) (w .1 .result .len) long (w .1 .ensures .0) (w .1 .ensures .1)),
       λ x p g z. left-laid (instants (a .t1) (a .t2 .entries) (a .t2 .count) first) x (k .t .at) p (k .t .laid) (a .t2 .count + 1) (k .i) (g ∙ s .gathers e .begin ∙ sym (s .gathers e .start)) z e few,
     ))
     (λ w.
     let e = not-false _ (w .0 .left) in
     let t = s .walks e .tried h in (
-      rw (w .1, w .2) (onward-next (diaries (a .t1) (a .t2 .entries) (a .t2 .count) first) (wants (a .t1) (a .t2 .entries) (a .t2 .count) first) (a .t2 .count + 1) (a .work) (a .from) (instants (a .t1) (a .t2 .entries) (a .t2 .count) first) (asks-wanted (a .t1) (a .t2 .entries) (a .t2 .count) first (a .t3) (k .inv .0)) (k .cs) (k .edges) (k .len) (k .t .at) (k .t .end) (k .t .free) (k .t .next) (k .t .laid) (k .i) s l e h f),
+      rw (w .1, w .2) (onward-next (those (a .t1) (a .t2 .entries) (a .t2 .count) first) (a .t2 .count + 1) (a .work) (a .from) (instants (a .t1) (a .t2 .entries) (a .t2 .count) first) (asks-sound (a .t1) (a .t2 .entries) (a .t2 .count) first (a .t3) (k .inv .0)) (asks-long (a .t1) (a .t2 .entries) (a .t2 .count) first (a .t3) (k .inv .0)) (k .cs) (k .edges) (k .len) (k .t .at) (k .t .end) (k .t .free) (k .t .next) (k .t .laid) (k .i) s l e h f),
       λ x p g z. left-on (instants (a .t1) (a .t2 .entries) (a .t2 .count) first) x (k .t .at) p (k .t .laid) (a .t2 .count + 1) (k .i) (omega (arith, g, t .later)) (omega (arith, g, t .most)) (rw g (t .listed)) z e few,
     ))
     (c .if6 .came)
@@ -211,7 +220,7 @@ slice-aggregate-begun c = sym (laid-out (c .before) .0 .wide)
 begun-requires : tie.Need-begun-requires Inv-loop μ-loop
 begun-requires c κs =
     let o = laid-out (c .before) .0 in
-    (o .short, omega (arith, o .short, o .wide), c .before .before .before .before .before .before .before .before .before .before .pre .0 .5, o .layout .edges)
+    (o .short, omega (arith, o .short, o .wide), c .before .before .before .before .before .before .before .before .before .before .pre .5, o .layout .edges)
 
 loop-less-2 : tie.Need-loop-less-2 Inv-loop μ-loop
 loop-less-2 c =
@@ -225,7 +234,7 @@ loop-again-2 c =
     let first = c .before .before .before .before .before .before .before .before .before .before .own-timeline .result in
     let u = c .begun .ensures in
     let r = c .begun .result in
-    (k .inv .0, state-begun (diaries (a .t1) (a .t2 .entries) (a .t2 .count) first) (wants (a .t1) (a .t2 .entries) (a .t2 .count) first) (a .t2 .count + 1) (a .work) (a .from) (instants (a .t1) (a .t2 .entries) (a .t2 .count) first) (asks-wanted (a .t1) (a .t2 .entries) (a .t2 .count) first (a .t3) (k .inv .0)) (k .cs) (c .before .before .if6 .edges) (c .before .before .if6 .len) (k .t .next) (k .inv .1 .cells) (laid-out (c .before .before) .0) (r .at) (r .end) (r .free) (r .next) (r .laid) (u .0) (u .1) (u .2) (u .3))
+    (k .inv .0, state-begun (those (a .t1) (a .t2 .entries) (a .t2 .count) first) (a .t2 .count + 1) (a .work) (a .from) (instants (a .t1) (a .t2 .entries) (a .t2 .count) first) (asks-sound (a .t1) (a .t2 .entries) (a .t2 .count) first (a .t3) (k .inv .0)) (asks-long (a .t1) (a .t2 .entries) (a .t2 .count) first (a .t3) (k .inv .0)) (k .cs) (c .before .before .if6 .edges) (c .before .before .if6 .len) (k .t .next) (k .inv .1 .cells) (laid-out (c .before .before) .0) (r .at) (r .end) (r .free) (r .next) (r .laid) (u .0) (u .1) (u .2) (u .3))
 
 returns-2 : tie.Need-returns-2 Inv-loop μ-loop
 unfolding fitOf
@@ -233,7 +242,7 @@ returns-2 c =
     let a = c .before .before .before .before .before .args in
     let k = c .before .before .loop in
     let first = c .before .before .before .before .own-timeline .result in
-    state-over (diaries (a .t1) (a .t2 .entries) (a .t2 .count) first) (wants (a .t1) (a .t2 .entries) (a .t2 .count) first) (a .t2 .count + 1) (a .work) (a .from) (instants (a .t1) (a .t2 .entries) (a .t2 .count) first) (asks-wanted (a .t1) (a .t2 .entries) (a .t2 .count) first (a .t3) (k .inv .0)) (k .cs) (k .edges) (k .len) (k .t .at) (k .t .end) (k .t .free) (k .t .next) (k .t .laid) (k .i) (k .inv .1) (c .before .before .before .before .before .pre .0 .4) (c .if1 .left) ∙ answered (a .work) (a .from) (a .t1) (a .t2 .entries) (a .t2 .count) first (a .t3) (k .inv .0) (a .own) (c .before .before .before .before .own-timeline .ensures)
+    answered-none (a .work) (a .from) _ (a .own) first (c .before .before .before .before .own-timeline .ensures) (state-over (those (a .t1) (a .t2 .entries) (a .t2 .count) first) (a .t2 .count + 1) (a .work) (a .from) (instants (a .t1) (a .t2 .entries) (a .t2 .count) first) (asks-sound (a .t1) (a .t2 .entries) (a .t2 .count) first (a .t3) (k .inv .0)) (asks-long (a .t1) (a .t2 .entries) (a .t2 .count) first (a .t3) (k .inv .0)) (k .cs) (k .edges) (k .len) (k .t .at) (k .t .end) (k .t .free) (k .t .next) (k .t .laid) (k .i) (k .inv .1) (c .before .before .before .before .before .pre .4) (c .if1 .left))
 
 pub fit-resumable-spec : {M : Type 1} → statement M
 fit-resumable-spec =
