@@ -1,4 +1,4 @@
--- How the code tells the reply of placing, and demand 3 for two calls; then what its parts answer on the way.
+-- How the code tells the reply of placing, and demand 3 for two calls; then the refusals of an order by itself.
 pub mod Told
 pub mod Calls
 pub mod Steps
