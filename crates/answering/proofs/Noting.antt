@@ -14,11 +14,11 @@ use Rattle.activity.specs.declared.Activity.{Activity}
 use Rattle.activity.specs.Check.{activityRefusal}
 use Rattle.board.specs.declared.Board.{Board}
 use Rattle.board.specs.Valid as board
-use Rattle.answering.specs.Tables.{numberOf, foundAt, requirementAt, startFor, Kept, toAsk}
+use Rattle.answering.specs.Tables.{numberOf, foundAt, requirementAt, startFor, Remembered, toAsk}
 use Rattle.answering.proofs.Finding.{found-later}
 
 -- before anything is asked
-pub kept-none : (b : Board) (a : Activity) (ready : ℕ) → b .len ≤ 16 → a .len ≤ 4 → Kept b a ready (replicate 64 1) (replicate 64 0)
+pub kept-none : (b : Board) (a : Activity) (ready : ℕ) → b .len ≤ 16 → a .len ≤ 4 → Remembered b a ready (replicate 64 1) (replicate 64 0)
 kept-none b a ready n m = record {
   asked-long = refl;
   starts-long = refl;
@@ -43,7 +43,7 @@ not-asked true false true e f = (refl, e)
 not-asked true true r e f = absurd (not-both true refl e)
 not-asked false q r e f = absurd (not-both false f refl)
 
-module _ (b : Board) (v : board.valid b ≡ true) (few : b .len ≤ 16) (a : Activity) (ready : ℕ) (w : activityRefusal a ready ≡ 0) (t : ℕ) (asked starts : List ℕ) (kept : Kept b a ready asked starts) (k : ℕ)
+module _ (b : Board) (v : board.valid b ≡ true) (few : b .len ≤ 16) (a : Activity) (ready : ℕ) (w : activityRefusal a ready ≡ 0) (t : ℕ) (asked starts : List ℕ) (kept : Remembered b a ready asked starts) (k : ℕ)
     (there : k < 16 * a .len) (thru : Through b a ready t starts k) where
   -- cell k is that of one requirement and one place
   cell : (x y : ℕ) → y < b .len → 16 * x + y ≡ k → (x ≡ k / 16) × (y ≡ k % 16)
@@ -72,7 +72,7 @@ module _ (b : Board) (v : board.valid b ≡ true) (few : b .len ≤ 16) (a : Act
     pub through-asked : Through b a ready t (set starts k x) k
     through-asked y z m n q = getD-set-other starts k (16 * y + z) x 0 (λ (u : 16 * y + z ≡ k). omega arith) ∙ thru y z m n q
 
-    pub kept-asked : Kept b a ready (set asked k t) (set starts k x)
+    pub kept-asked : Remembered b a ready (set asked k t) (set starts k x)
     kept-asked = record {
       asked-long = length-set asked k t ∙ kept .asked-long;
       starts-long = length-set starts k x ∙ kept .starts-long;

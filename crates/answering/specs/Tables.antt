@@ -37,7 +37,7 @@ abbrev pub toAsk : ℕ → ℕ → ℕ → ℕ → ℕ → Bool
 toAsk place len asked start t = ltb place len && (ltb t asked || ltb start t)
 
 -- what was answered is so for each instant between the one asked from and the start
-pub record Kept (b : Board) (a : Activity) (ready : ℕ) (asked starts : List ℕ) : Type 0 where
+pub record Remembered (b : Board) (a : Activity) (ready : ℕ) (asked starts : List ℕ) : Type 0 where
   pub asked-long : length asked ≡ 64
   pub starts-long : length starts ≡ 64
   pub so : (j i t : ℕ) → j < a .len → i < b .len → getD asked (16 * j + i) 0 ≤ t → t ≤ getD starts (16 * j + i) 0 → getD starts (16 * j + i) 0 ≡ startFor b a ready t j i

@@ -15,7 +15,7 @@ use Rattle.calendar.specs.Search.{at}
 use Rattle.board.specs.Resources.{resourceAt, numberAt, lookupTo, lookup, onBoard}
 use Rattle.board.specs.Setups.{entryOr, matrixSetup, setupMs}
 use Rattle.calendar.specs.Sets.{bit}
-use Rattle.board.specs.Transport.{greatest, transportTo}
+use Rattle.board.specs.Transport.{greatestTransport, transportTo}
 use Rattle.board.specs.Places.{anywhere}
 use Rattle.board.specs.Valid.{durationRight, entryRight, isZero, ownRight, entryCell, matrixRight, companionCell, companionsRight, lastRight, resourceRight, transportCell, transportRight, valid}
 use Rattle.board.specs.declared.Board.{Board}
@@ -90,13 +90,13 @@ transport-fact b v k l = cell-facts (getD (b .transport) k 0) (onBoard b (k / 16
 
 -- bits off the board add nothing on a valid board
 pub off-nothing : (b : Board) → valid b ≡ true → (origins to n : ℕ) → to < 16 → n ≤ 16
-    → greatest anywhere (b .transport) origins to n ≡ greatest (onBoard b) (b .transport) origins to n
-unfolding greatest anywhere
+    → greatestTransport anywhere (b .transport) origins to n ≡ greatestTransport (onBoard b) (b .transport) origins to n
+unfolding greatestTransport anywhere
 off-nothing b v origins to zero l m = refl
 off-nothing b v origins to (suc n) l m = rw (off-nothing b v origins to n l (omega arith)) (go (bit origins n) (onBoard b n) refl)
   where
     before : ℕ
-    before = greatest (onBoard b) (b .transport) origins to n
+    before = greatestTransport (onBoard b) (b .transport) origins to n
 
     ms : ℕ
     ms = getD (b .transport) (16 * n + to) 0
@@ -109,13 +109,13 @@ off-nothing b v origins to (suc n) l m = rw (off-nothing b v origins to n l (ome
         rw (transport-fact b v (16 * n + to) (omega arith) .1 z) refl
     go false o e = refl
 
-pub transport-is : (b : Board) → valid b ≡ true → (origins to : ℕ) → to < 16 → greatest anywhere (b .transport) origins to 16 ≡ transportTo b origins to
+pub transport-is : (b : Board) → valid b ≡ true → (origins to : ℕ) → to < 16 → greatestTransport anywhere (b .transport) origins to 16 ≡ transportTo b origins to
 transport-is b v origins to l = off-nothing b v origins to 16 l (omega arith)
 
 -- the greatest transport: none is greater, and it is one of them or 0
 pub greatest-least : (on : ℕ → Bool) (transport : List ℕ) (origins to n k : ℕ) → k < n → bit origins k ≡ true → on k ≡ true
-    → getD transport (16 * k + to) 0 ≤ greatest on transport origins to n
-unfolding greatest
+    → getD transport (16 * k + to) 0 ≤ greatestTransport on transport origins to n
+unfolding greatestTransport
 greatest-least on transport origins to zero k l p q = absurd (omega arith)
 greatest-least on transport origins to (suc n) k l p q =
     ⊎-elim
@@ -127,13 +127,13 @@ greatest-least on transport origins to (suc n) k l p q =
     (eq-or-lt-of-le (omega arith))
 
 pub greatest-one : (on : ℕ → Bool) (transport : List ℕ) (origins to n : ℕ)
-    → (greatest on transport origins to n ≡ 0) ⊎ ((k : ℕ) × (k < n) × (bit origins k ≡ true) × (on k ≡ true) × (greatest on transport origins to n ≡ getD transport (16 * k + to) 0))
-unfolding greatest
+    → (greatestTransport on transport origins to n ≡ 0) ⊎ ((k : ℕ) × (k < n) × (bit origins k ≡ true) × (on k ≡ true) × (greatestTransport on transport origins to n ≡ getD transport (16 * k + to) 0))
+unfolding greatestTransport
 greatest-one on transport origins to zero = inl refl
 greatest-one on transport origins to (suc n) = go (bit origins n) refl (on n) refl (greatest-one on transport origins to n)
   where
     was : ℕ
-    was = greatest on transport origins to n
+    was = greatestTransport on transport origins to n
 
     ms : ℕ
     ms = getD transport (16 * n + to) 0
@@ -156,7 +156,7 @@ greatest-one on transport origins to (suc n) = go (bit origins n) refl (on n) re
     go true p false q h = kept _ (omega arith) h
     go false p o q h = kept _ (omega arith) h
 
-pub greatest-small : (on : ℕ → Bool) (b : Board) → valid b ≡ true → (origins to n : ℕ) → to < 16 → n ≤ 16 → greatest on (b .transport) origins to n ≤ 2 ^ 36
+pub greatest-small : (on : ℕ → Bool) (b : Board) → valid b ≡ true → (origins to n : ℕ) → to < 16 → n ≤ 16 → greatestTransport on (b .transport) origins to n ≤ 2 ^ 36
 greatest-small on b v origins to n l m =
     ⊎-elim
     (λ z. omega (arith, z))

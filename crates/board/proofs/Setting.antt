@@ -2,17 +2,16 @@
 use borrow.Author.Tests.{leb-true, eq-eqb, ne-eqb}
 use mathlib.Core.Bool.{true, false}
 use mathlib.Core.List.{List}
-use mathlib.Core.Path.{_≡_, refl, sym, _∙_}
+use mathlib.Core.Path.{_≡_, refl}
 use Prim.Native.Nat.{ℕ, suc, _+_, _*_, _/_, _%_, _≤_, _<_, min}
 use native.Mathlib.Omega.{arith}
 use lib.Dec.{ltb}
 use lib.IntN.{pos}
 use lib.ListN.{getD, set}
-use Rattle.board.specs.Places.{placeOf}
-use Rattle.board.specs.Resources.{numberAt, lookupTo, lookup, isAt}
+use Rattle.board.specs.Resources.{numberAt, lookupTo, isAt}
 use Rattle.board.specs.Setups.{entryOr, matrixSetup, setupMs}
 use Rattle.calendar.specs.Every.{everyFrom, from-same}
-use Rattle.board.specs.Valid.{lastRight, transportCell, transportRight, valid}
+use Rattle.board.specs.Valid.{lastRight, transportCell, transportRight}
 use Rattle.board.specs.declared.Board.{Board}
 use Rattle.board.specs.declared.LastCategory.{LastCategory}
 use Rattle.board.specs.declared.LastCategory.the-variants.{Nothing, Category}

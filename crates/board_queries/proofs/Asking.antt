@@ -19,7 +19,7 @@ use Rattle.board.specs.declared.LastCategory.the-variants.{Nothing, Category}
 use Rattle.board.specs.declared.Board.{Board}
 use Rattle.board.specs.Resources.{resourceAt, lookup, isAt}
 use Rattle.board.specs.Setups.{setupMs}
-use Rattle.board.specs.Transport.{greatest}
+use Rattle.board.specs.Transport.{greatestTransport}
 use Rattle.board.specs.Places.{anywhere}
 use Rattle.board.specs.Places.{placeOf}
 use Rattle.board.specs.Valid.{valid, lastRight}
@@ -102,7 +102,7 @@ module _ (b : Board) (origins to : ℕ) (r : PlaceFor) (q : Located b to r) wher
   unfolding transportReply
   transport-place h = refused-place b to r _ q h
 
-  pub transport-to : (ms : ℕ) → r .refusal ≡ 0 → ms ≡ greatest anywhere (b .transport) origins to 16 → Transport ms ≡ transportReply b origins to
+  pub transport-to : (ms : ℕ) → r .refusal ≡ 0 → ms ≡ greatestTransport anywhere (b .transport) origins to 16 → Transport ms ≡ transportReply b origins to
   unfolding transportReply
   transport-to ms h e = taken-place b to r _ _ q h (ap Transport (e ∙ transport-is b (q .rules-kept h) origins to (q .low h .1)))
 

@@ -14,10 +14,9 @@ use timeline::ResourceTimeline;
 ghost use mathlib.Core.Path.{_≡_};
 ghost use Prim.Native.Nat.{_+_, _≤_};
 ghost use lib.ListN.{length};
-ghost use lib.Dec.{eqb};
 ghost use lib.Ieee.{binary64, ofBits};
 ghost use Rattle.bodies.specs.Bodies.{fixedLen};
-ghost use Rattle.board_records.specs.Orders.{durationAt, releaseOf, withRequirement, withTiming, requirementAt, timingAt, partReply, flagAbove, orderBy, orderDoes};
+ghost use Rattle.board_records.specs.Orders.{durationAt, releaseOf, withRequirement, requirementAt, timingAt, partReply, flagAbove, orderBy, orderDoes};
 
 // What a part of an order answers: the refusal's number, 0 for none, and the order, new or unchanged.
 pub struct Ordered {

@@ -1,5 +1,5 @@
 -- 01, 'Window or block': the replies, singly.
-use Prim.Native.Nat.{ℕ, zero, suc, _+_, _^_}
+use Prim.Native.Nat.{ℕ, zero, suc, _+_}
 use mathlib.Core.Bool.{not, cond, _||_}
 use mathlib.Core.List.{replicate}
 use lib.ListN.{set}

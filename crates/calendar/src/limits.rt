@@ -10,5 +10,5 @@ pub const LONGEST_SPAN: u64 = 9007199254740992;
 pub const LONGEST_DURATION: u64 = 68719476736;
 // Units of a booking or a usage.
 pub const MOST_UNITS: u32 = 10000;
-// 2^63, after every instant that can be reached: stands for none where numbers are kept.
+// Not one of them: 2^63, after every instant that can be reached, stands for none where numbers are kept.
 pub const NEVER: u64 = 9223372036854775808;

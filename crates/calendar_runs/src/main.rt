@@ -8,8 +8,6 @@ use joint::WorkEnd;
 ghost use mathlib.Core.Path.{_≡_};
 ghost use mathlib.Core.Bool.{true};
 ghost use Prim.Native.Nat.{_+_, _*_, _^_, _≤_, _<_};
-ghost use lib.ListN.{length};
-ghost use Rattle.calendar.specs.Valid.{valid};
 ghost use Rattle.work_ends.specs.Layout.{Edges};
 ghost use Rattle.joint.specs.Layout.{Ruled};
 

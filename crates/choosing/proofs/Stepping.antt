@@ -26,7 +26,7 @@ use Rattle.plans.specs.Plans.{noPlan, planWith, planOf, Planned}
 use Rattle.plans.proofs.Planning.{planned-next}
 use Rattle.together.specs.declared.Asking.{Asking}
 use Rattle.together.specs.Steps.{idle}
-use Rattle.answering.specs.Tables.{toAsk, requirementAt, foundAt, Kept, Answered}
+use Rattle.answering.specs.Tables.{toAsk, requirementAt, foundAt, Remembered, Answered}
 use Rattle.answering.proofs.Finding.{used-some}
 use Rattle.answering.proofs.Noting.{Through, through-start, kept-none, cell-known, kept-asked, through-asked}
 use Rattle.rounds.specs.declared.Rounds.{Rounds}
@@ -44,7 +44,7 @@ pub record State (b : Board) (a : Activity) (ready : ℕ) (plans : List Plan) (a
   pub plan : Planned b a ready planned plans
   pub whole : (i : ℕ) → i < planned → length (resourceAt b i .companions) ≡ 4
   pub settled : Settled b a ready x
-  pub kept : Kept b a ready asked starts
+  pub kept : Remembered b a ready asked starts
   pub thru : Through b a ready (x .instant) starts k
   pub none : 16 * a .len ≤ k → g ≡ idle
   pub going : x .done ≡ false → toAsk (k % 16) (b .len) (getD asked k 0) (getD starts k 0) (x .instant) ≡ true → Going b a ready (k % 16) (x .instant) (requirementAt a (k / 16)) g

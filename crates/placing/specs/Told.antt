@@ -1,6 +1,5 @@
 -- What an answer of `place_activity` says of the paper's reply: each of its cases with the paper's values and number; the entries stand on
 -- the slate.
-use Prim.Native.Nat.{ℕ}
 use lib.ListN.{length}
 use Rattle.calendar.specs.Search.{Found, nothing, at}
 use Rattle.scheduler.specs.Placing.{Reply, placed, chosenNone, none, refused}

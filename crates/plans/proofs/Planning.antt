@@ -17,7 +17,7 @@ use Rattle.board.specs.declared.Resource.{Resource}
 use Rattle.board.specs.declared.Board.{Board}
 use Rattle.board.specs.Setups.{setupOn}
 use Rattle.board.specs.Resources.{resourceAt, numberAt}
-use Rattle.board.specs.Transport.{greatest}
+use Rattle.board.specs.Transport.{greatestTransport}
 use Rattle.board.specs.Places.{anywhere}
 use Rattle.board.specs.Valid.{valid, resourceRight}
 use Rattle.board.proofs.Meaning.{resource-rules, resource-of, transport-is, greatest-small, setup-small}
@@ -39,10 +39,10 @@ module _ (b : Board) (a : Activity) (ready : ℕ) (v : valid b ≡ true) (e : ac
   pub number-small : (i : ℕ) → i < b .len → numberAt b i < 16
   number-small i l = omega (arith, resource-of b v i l .number)
 
-  pub way-small : (i : ℕ) → i < b .len → ready + greatest anywhere (b .transport) (a .origins) (numberAt b i) 16 ≤ 2 ^ 43
+  pub way-small : (i : ℕ) → i < b .len → ready + greatestTransport anywhere (b .transport) (a .origins) (numberAt b i) 16 ≤ 2 ^ 43
   way-small i l = omega (arith, fine .ready-range, greatest-small anywhere b v (a .origins) (numberAt b i) 16 (number-small i l) (omega arith))
 
-  pub arrival-is : (i : ℕ) → i < b .len → ready + greatest anywhere (b .transport) (a .origins) (numberAt b i) 16 ≡ arrival b a ready (resourceAt b i)
+  pub arrival-is : (i : ℕ) → i < b .len → ready + greatestTransport anywhere (b .transport) (a .origins) (numberAt b i) 16 ≡ arrival b a ready (resourceAt b i)
   unfolding arrival
   arrival-is i l = rw (transport-is b v (a .origins) (numberAt b i) (number-small i l)) refl
 

@@ -8,7 +8,7 @@ ghost use Prim.Native.Nat.{_+_, _^_, _≤_};
 ghost use lib.ListN.{replicate};
 ghost use Rattle.activity.specs.Lawful.{Lawful};
 ghost use Rattle.board.specs.Valid.{resourceRight};
-ghost use Rattle.board.specs.Transport.{greatest};
+ghost use Rattle.board.specs.Transport.{greatestTransport};
 ghost use Rattle.board.specs.Places.{anywhere};
 ghost use Rattle.plans.specs.Plans.{blankPlan, planWith};
 
@@ -48,8 +48,8 @@ pub fn no_plans() -> [Plan; 16]
 
 // The plan of a resource, from ready on.
 pub fn plan_of(r: Resource, a: Activity, ready: u64, transport: &[u64; 256]) -> Plan
-    requires { ⌜ (resourceRight r ≡ true) × Lawful (a .duration) (a .timings) × (a .category ≤ 15) × (ready + greatest anywhere (now transport) (a .origins) (r .number) 16 ≤ 2 ^ 43) ⌝ }
-    ensures { λ x. ⌜ x ≡ planWith a r (ready + greatest anywhere (now (transport .entry)) (a .origins) (r .number) 16) ⌝ }
+    requires { ⌜ (resourceRight r ≡ true) × Lawful (a .duration) (a .timings) × (a .category ≤ 15) × (ready + greatestTransport anywhere (now transport) (a .origins) (r .number) 16 ≤ 2 ^ 43) ⌝ }
+    ensures { λ x. ⌜ x ≡ planWith a r (ready + greatestTransport anywhere (now (transport .entry)) (a .origins) (r .number) 16) ⌝ }
 {
     let base = a.duration;
     let timings = a.timings;

@@ -1,7 +1,7 @@
 -- 01, 'Program slot': what a record does.
 use Prim.Native.Nat.{ℕ, _+_, _-_, _^_}
 use mathlib.Core.Bool.{Bool, true, false, cond, _||_}
-use mathlib.Core.List.{List, []}
+use mathlib.Core.List.{List}
 use lib.ListN.{getD}
 use lib.IntN.{pos}
 use lib.Dec.{leb, ltb, eqb}

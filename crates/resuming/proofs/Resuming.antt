@@ -5,7 +5,7 @@ use mathlib.Core.List.{List, map}
 use Prim.Native.Nat.{ℕ, suc, _^_, _≤_, _<_}
 use native.Mathlib.Omega.{arith}
 use Rattle.calendar.specs.Search.{Found, nothing, at}
-use Rattle.calendar.specs.Work.{joint, jointEnd}
+use Rattle.calendar.specs.Work.{jointEnd}
 use Rattle.calendar.specs.Meaning.{not-at}
 use Rattle.timeline.proofs.Searching.{Sought, sought-on, sought-found, sought-none}
 use Rattle.scheduler.specs.Alone.{Share, lastOf}

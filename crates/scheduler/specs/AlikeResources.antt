@@ -15,7 +15,7 @@ use Rattle.board.specs.declared.Resource.{Resource}
 use Rattle.board.specs.declared.Board.{Board}
 use Rattle.board.specs.Resources.{noResource, resourcesOf, numberAt, onBoard}
 use Rattle.board.specs.Setups.{setupOn}
-use Rattle.board.specs.Transport.{greatest}
+use Rattle.board.specs.Transport.{greatestTransport}
 use Rattle.scheduler.specs.Alone.{allStart, diaryOf, companionsOf, oneUnit, withCompanions, durationAlone, spanAlone, arrival}
 use Rattle.scheduler.specs.Plain.{startsThere}
 use Rattle.scheduler.specs.Lists.{Each, Pairs, pairs-on, pairs-map, pairs-map-each}
@@ -70,9 +70,9 @@ module _ (b c : Board) (k : Alike b c) where
     arrival-twin : (ready : ℕ) → arrival b a ready r ≡ arrival c a ready s
     unfolding arrival
     arrival-twin ready =
-        ap (λ (P : ℕ → Bool). ready + greatest P (b .transport) (a .origins) (r .number) 16) (fun-ext (on-same b c k))
-        ∙ ap (λ (ms : List ℕ). ready + greatest (onBoard c) ms (a .origins) (r .number) 16) (k .transport-same)
-        ∙ ap (λ (n : ℕ). ready + greatest (onBoard c) (c .transport) (a .origins) n 16) (w .alike .number-same)
+        ap (λ (P : ℕ → Bool). ready + greatestTransport P (b .transport) (a .origins) (r .number) 16) (fun-ext (on-same b c k))
+        ∙ ap (λ (ms : List ℕ). ready + greatestTransport (onBoard c) ms (a .origins) (r .number) 16) (k .transport-same)
+        ∙ ap (λ (n : ℕ). ready + greatestTransport (onBoard c) (c .transport) (a .origins) n 16) (w .alike .number-same)
 
     more-shares : (u : ℕ) → Pairs AlikeShare (withCompanions b r u) (withCompanions c s u)
     unfolding withCompanions

@@ -29,7 +29,7 @@ use Rattle.scheduler.specs.Lists.{Each, each-end, each-on, each-append}
 use Rattle.scheduler.specs.Together.{all-back}
 use Rattle.scheduler.specs.Ranking.{each-sort}
 use Rattle.scheduler.specs.Answering.{Answers, Kept, served, alone-answers, told}
-use Rattle.scheduler.specs.Rounds.{heldOf, not-few, hold-parts, each-hold, greatest-le, starts-le, greatest-ge, round-at, round-upto, round-from, round-stays, round-some}
+use Rattle.scheduler.specs.Rounds.{heldIn, not-few, hold-parts, each-hold, greatest-le, starts-le, greatest-ge, round-at, round-upto, round-from, round-stays, round-some}
 use Rattle.scheduler.specs.Events.{eventsOf, calm-else, least-listed, above, above-falls}
 use Rattle.scheduler.specs.Tests.{or-left, or-right}
 
@@ -102,8 +102,8 @@ module _ (b : Board) (a : Activity) (ready : ℕ) (kept : (q : ResourceRequireme
 
   module _ (listed : (q : ResourceRequirement) → Each (Listed q) (resourcesOf b)) where
     round-listed : (t : ℕ) (qs : List ResourceRequirement) (hs : List Held) → round b a ready t qs ≡ holds hs → Each (λ h. OnPoint t (h .start)) hs
-    unfolding round heldOf
-    round-listed t [] hs e = rw (ap heldOf (sym e)) each-end
+    unfolding round heldIn
+    round-listed t [] hs e = rw (ap heldIn (sym e)) each-end
     round-listed t (q ∷ qs) hs e =
         let cs = candidates b a ready q t (resourcesOf b) in
         let p = hold-parts q cs (round b a ready t qs) hs e in
@@ -125,7 +125,7 @@ module _ (b : Board) (a : Activity) (ready : ℕ) (kept : (q : ResourceRequireme
 
       -- a step passes no instant with enough
       onward : (t : ℕ) (hs : List Held) → round b a ready t (q ∷ qs) ≡ holds hs → Sought P ready t → t ≤ greatestStart hs → Sought P ready (greatestStart hs)
-      unfolding heldOf
+      unfolding heldIn
       onward t hs e s l = record {
         low = omega (arith, s .low);
         none = λ y m n.
@@ -133,17 +133,17 @@ module _ (b : Board) (a : Activity) (ready : ℕ) (kept : (q : ResourceRequireme
             (λ (z : t ≤ y). no-way (P y) (λ h.
             let w = round-upto b a ready kept t y z (q ∷ qs) h in
             let k = greatest-le y (w .0) (w .2) in
-            let j : w .0 ≡ hs = ap heldOf (sym (w .1) ∙ e) in
+            let j : w .0 ≡ hs = ap heldIn (sym (w .1) ∙ e) in
             let i : greatestStart hs ≤ y = rw j at k in
             omega arith))
             (lt-or-ge y t);
       }
 
       stays : (t : ℕ) (hs : List Held) → round b a ready t (q ∷ qs) ≡ holds hs → greatestStart hs ≡ t → (P t ≡ true) × (hs ≡ H t)
-      unfolding heldOf
+      unfolding heldIn
       stays t hs e m =
           let p = round-stays b a ready kept t (q ∷ qs) hs e (starts-le t hs (omega arith)) in
-          (p, ap heldOf (sym e ∙ round-at b a ready kept t (q ∷ qs) p))
+          (p, ap heldIn (sym e ∙ round-at b a ready kept t (q ∷ qs) p))
 
       -- a step leads to a listed instant, after which fewer are left
       pub round-falls : (t : ℕ) (hs : List Held) → round b a ready t (q ∷ qs) ≡ holds hs → (greatestStart hs ≡ t → ⊥) → (t ≤ greatestStart hs) × (above points (greatestStart hs) < above points t)

@@ -27,9 +27,9 @@ isHolds tooFew = false
 isHolds (holds hs) = true
 
 -- those that a round holds
-unfoldable pub heldOf : Round → List Held
-heldOf tooFew = []
-heldOf (holds hs) = hs
+unfoldable pub heldIn : Round → List Held
+heldIn tooFew = []
+heldIn (holds hs) = hs
 
 pub not-few : {X : Type 0} (hs : List Held) → tooFew ≡ holds hs → X
 unfolding isHolds
@@ -43,13 +43,13 @@ pub record Parts (q : ResourceRequirement) (cs : List Candidate) (rest : Round) 
   pub all-is : hs ≡ holdFirst q (sort cs) ++ others
 
 pub hold-parts : (q : ResourceRequirement) (cs : List Candidate) (rest : Round) (hs : List Held) → hold q cs rest ≡ holds hs → Parts q cs rest hs
-unfolding behind heldOf
+unfolding behind heldIn
 hold-parts q cs rest hs e = go (ltb (length cs) (q .quantity)) refl rest refl e
   where
     go : (l : Bool) → ltb (length cs) (q .quantity) ≡ l → (r : Round) → rest ≡ r → cond l tooFew (behind (holdFirst q (sort cs)) r) ≡ holds hs → Parts q cs rest hs
     go true l r s f = not-few hs f
     go false l tooFew s f = not-few hs f
-    go false l (holds ks) s f = record { many = ltb-false (length cs) (q .quantity) l; others = ks; rest-is = s; all-is = sym (ap heldOf f) }
+    go false l (holds ks) s f = record { many = ltb-false (length cs) (q .quantity) l; others = ks; rest-is = s; all-is = sym (ap heldIn f) }
 
 pub hold-is : (q : ResourceRequirement) (cs : List Candidate) (ks : List Held) → q .quantity ≤ length cs → hold q cs (holds ks) ≡ holds (holdFirst q (sort cs) ++ ks)
 unfolding behind
@@ -141,8 +141,8 @@ module _ (b : Board) (a : Activity) (ready : ℕ) (kept : (q : ResourceRequireme
 
   -- what is held at t starts at t or later
   pub round-from : (t : ℕ) (qs : List ResourceRequirement) (hs : List Held) → round b a ready t qs ≡ holds hs → Each (λ h. t ≤ h .start) hs
-  unfolding round here heldOf
-  round-from t [] hs e = rw (ap heldOf (sym e)) each-end
+  unfolding round here heldIn
+  round-from t [] hs e = rw (ap heldIn (sym e)) each-end
   round-from t (q ∷ qs) hs e =
       let p = hold-parts q (here q t) (round b a ready t qs) hs e in
       rw (p .all-is)

@@ -7,7 +7,7 @@ ghost use mathlib.Core.Bool.{true};
 ghost use Prim.Native.Nat.{_<_};
 ghost use Rattle.board.specs.Setups.{entryOr, setupMs};
 ghost use Rattle.board.specs.Valid.{lastRight};
-ghost use Rattle.board.specs.Transport.{greatest};
+ghost use Rattle.board.specs.Transport.{greatestTransport};
 ghost use Rattle.board.specs.Places.{anywhere};
 
 // The value of an entry, and another where it is absent.
@@ -50,7 +50,7 @@ pub fn setup_ms(m: TransitionMatrix, last: LastCategory, category: u8, own: u64)
 // The greatest transport to a number over the numbers come from. Off the board it is 0.
 pub fn transport_between(transport: &[u64; 256], origins: u16, to: u8) -> u64
     requires { ⌜ to < 16 ⌝ }
-    ensures { λ r. ⌜ r ≡ greatest anywhere (now (transport .entry)) origins to 16 ⌝ }
+    ensures { λ r. ⌜ r ≡ greatestTransport anywhere (now (transport .entry)) origins to 16 ⌝ }
 {
     let at = to as usize;
     let mut most: u64 = 0;

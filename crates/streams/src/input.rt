@@ -1,6 +1,5 @@
 // A buffer of input: what is unread stays in order when more is read behind it.
 ghost use mathlib.Core.Path.{_≡_};
-ghost use mathlib.Core.Bool.{true};
 ghost use Prim.Native.Nat.{_+_, _-_, _≤_};
 ghost use lib.ListN.{length, take, drop};
 ghost use Rattle.streams.specs.Input.{Lies, Supplied};

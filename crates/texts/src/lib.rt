@@ -1,6 +1,5 @@
 // Text put into a buffer from an index on, one piece behind the other. Each function answers where it ends, and leaves the rest of the
 // buffer as it was. The paper takes this for granted ('Program slot').
-ghost use mathlib.Core.Path.{_≡_};
 ghost use mathlib.Core.List.{_∷_};
 ghost use Prim.Native.Nat.{_+_, _≤_};
 ghost use lib.ListN.{length, take};

@@ -1,6 +1,6 @@
 -- The columns of a diary, lent: what its rules say of them, and sums over the bookings that a test picks, from a cell on and up to a
 -- cell from which none is picked.
-use mathlib.Core.Path.{_≡_, refl, sym, _∙_, ap}
+use mathlib.Core.Path.{_≡_, refl, sym, _∙_}
 use mathlib.Core.Bool.{Bool, true, false, cond}
 use mathlib.Core.List.{List, [], _∷_, _++_}
 use mathlib.Core.Logic.{_⊎_, ⊎-elim}

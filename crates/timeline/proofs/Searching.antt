@@ -1,7 +1,7 @@
 -- A search from candidate to candidate finds the least instant, where the test holds one earlier too unless a candidate stands between.
 use mathlib.Core.Path.{_≡_, refl}
 use mathlib.Core.Bool.{Bool, true, false}
-use mathlib.Core.Logic.{_⊎_, ⊎-elim}
+use mathlib.Core.Logic.{⊎-elim}
 use Prim.Native.Nat.{ℕ, zero, suc, _+_, _-_, _≤_, _<_, max}
 use native.Mathlib.Omega.{arith}
 use Rattle.calendar.specs.Basics.{no-way, not-both, lt-or-ge}

@@ -1,5 +1,5 @@
 -- `asks::ask_refusal` meets its contract.
-use Prim.Native.Nat.{_-_, _^_}
+use Prim.Native.Nat.{_^_}
 use borrow.Author.Tests.{lt-ltb, le-ltb}
 use Rattle.timeline.specs.Ask.{askRefusal}
 use Rattle.asks.proofs.ask_refusal.Statement.{statement}

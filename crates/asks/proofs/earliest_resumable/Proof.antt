@@ -2,7 +2,6 @@
 use borrow.Author.Needs.{needs}
 use borrow.Author.Tests.{not-true, not-false}
 use mathlib.Core.Path.{sym, ap, _∙_}
-use Prim.Native.Nat.{_-_}
 use Rattle.work_ends.specs.Layout.{foundOf}
 use Rattle.asks.specs.Answers.{replyOf}
 use Rattle.work_starts.proofs.Finding.{asked-15, asked-refused, asked-reply, lawful, ended-at, ended-none}

@@ -1,7 +1,6 @@
 -- `board_queries::ask` meets its contract: one law for each kind.
 use borrow.Author.Needs.{needs}
 use native.Mathlib.Omega.{arith}
-use Prim.Native.Nat.{_-_}
 use Rattle.board_queries.proofs.Asking.{asks-lasting, asks-setup, asks-journey, asks-serving, ask-40, ask-41, ask-42, ask-43}
 use Rattle.board_queries.proofs.ask.Statement.{statement}
 use Rattle.board_queries.proofs.ask.Tie as tie

@@ -1,7 +1,6 @@
 -- `board_queries::ask_len` meets its contract.
 use native.Mathlib.Omega.{arith}
 use mathlib.Core.Path.{sym}
-use Prim.Native.Nat.{_-_}
 use Rattle.board_queries.proofs.Asking.{ask-40, ask-41, ask-42, ask-43, ask-none}
 use Rattle.board_queries.proofs.ask_len.Statement.{statement}
 use Rattle.board_queries.proofs.ask_len.Tie as tie

@@ -1,6 +1,5 @@
 -- `board_queries::last` meets its contract.
 use mathlib.Core.Path.{refl}
-use Prim.Native.Nat.{_-_}
 use Rattle.board_queries.specs.Asks.{ends}
 use Rattle.board_queries.proofs.last.Statement.{statement}
 use Rattle.board_queries.proofs.last.Tie as tie

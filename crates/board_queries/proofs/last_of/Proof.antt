@@ -1,6 +1,5 @@
 -- `board_queries::last_of` meets its contract.
 use native.Mathlib.Omega.{arith}
-use Prim.Native.Nat.{_-_}
 use Rattle.board_queries.proofs.Asking.{no-last, a-last}
 use Rattle.board_queries.proofs.last_of.Statement.{statement}
 use Rattle.board_queries.proofs.last_of.Tie as tie

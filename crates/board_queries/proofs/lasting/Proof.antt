@@ -1,7 +1,6 @@
 -- `board_queries::lasting` meets its contract: each case of the answer is the case of the reply.
 use borrow.Author.Needs.{needs}
 use mathlib.Core.Path.{sym, ap}
-use Prim.Native.Nat.{_-_}
 use Rattle.board_queries.specs.Asks.{durationLine}
 use Rattle.activity.specs.Check.{replyOf}
 use Rattle.board_queries.proofs.lasting.Statement.{statement}

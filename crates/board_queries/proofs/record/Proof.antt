@@ -3,7 +3,7 @@ use borrow.Author.Needs.{needs}
 use native.Mathlib.Omega.{arith}
 use Rattle.bodies.specs.Bodies.{byte}
 use mathlib.Core.Path.{refl}
-use Prim.Native.Nat.{_+_, _-_}
+use Prim.Native.Nat.{_+_}
 use Rattle.board_queries.proofs.Asking.{told-at, ends-at, record-room, ask-room, turn-none, turn-unknown, turn-told, turn-asked}
 use Rattle.board_queries.proofs.record.Statement.{statement}
 use Rattle.board_queries.proofs.record.Tie as tie

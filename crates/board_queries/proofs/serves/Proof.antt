@@ -2,7 +2,6 @@
 use borrow.Author.Needs.{needs}
 use native.Mathlib.Omega.{arith}
 use mathlib.Core.Path.{sym, _∙_}
-use Prim.Native.Nat.{_-_}
 use Rattle.board_queries.proofs.Asking.{located, serves-place, serves-yes, serves-no}
 use Rattle.board_queries.proofs.serves.Statement.{statement}
 use Rattle.board_queries.proofs.serves.Tie as tie

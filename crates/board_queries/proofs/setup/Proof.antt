@@ -1,7 +1,6 @@
 -- `board_queries::setup` meets its contract.
 use borrow.Author.Needs.{needs}
 use native.Mathlib.Omega.{arith}
-use Prim.Native.Nat.{_-_}
 use Rattle.board_queries.proofs.Asking.{located, setup-place, setup-category, setup-own, setup-is}
 use Rattle.board_queries.proofs.setup.Statement.{statement}
 use Rattle.board_queries.proofs.setup.Tie as tie

@@ -1,6 +1,5 @@
 -- `board_queries::told` meets its contract.
 use native.Mathlib.Omega.{arith}
-use Prim.Native.Nat.{_-_}
 use Rattle.board_queries.proofs.Asking.{told-taken, told-refused}
 use Rattle.board_queries.proofs.told.Statement.{statement}
 use Rattle.board_queries.proofs.told.Tie as tie

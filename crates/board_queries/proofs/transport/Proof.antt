@@ -1,7 +1,6 @@
 -- `board_queries::transport` meets its contract.
 use borrow.Author.Needs.{needs}
 use native.Mathlib.Omega.{arith}
-use Prim.Native.Nat.{_-_}
 use Rattle.board_queries.proofs.Asking.{located, transport-place, transport-to}
 use Rattle.board_queries.proofs.transport.Statement.{statement}
 use Rattle.board_queries.proofs.transport.Tie as tie

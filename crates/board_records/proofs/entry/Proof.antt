@@ -1,7 +1,6 @@
 -- `board_records::entry` meets its contract: one law for each kind.
 use borrow.Author.Needs.{needs}
 use native.Mathlib.Omega.{arith}
-use Prim.Native.Nat.{_-_}
 use Rattle.bodies.specs.Bodies.{fixedLen}
 use Rattle.bodies.proofs.Lengths.{fixed-at, nineteen-twenty, ten}
 use Rattle.board_records.proofs.Bits.{back}

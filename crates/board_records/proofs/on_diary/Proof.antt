@@ -1,7 +1,6 @@
 -- `board_records::on_diary` meets its contract: what `records::step` does, and its refusal.
 use borrow.Author.Needs.{needs}
 use native.Mathlib.Omega.{arith}
-use Prim.Native.Nat.{_-_}
 use Rattle.board_records.proofs.Doing.{diary-told, as-in-slot}
 use Rattle.board_records.proofs.on_diary.Statement.{statement}
 use Rattle.board_records.proofs.on_diary.Tie as tie

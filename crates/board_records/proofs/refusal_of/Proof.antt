@@ -1,7 +1,6 @@
 -- `board_records::refusal_of` meets its contract: only a refusal has a number.
 use borrow.Author.Needs.{needs}
 use mathlib.Core.Path.{sym, ap}
-use Prim.Native.Nat.{_-_}
 use Rattle.board_records.specs.Records.{refusalOf}
 use Rattle.slot_text.specs.Lines.{lineOf}
 use Rattle.board_records.proofs.refusal_of.Statement.{statement}

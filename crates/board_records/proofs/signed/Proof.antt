@@ -1,7 +1,6 @@
 -- `board_records::signed` meets its contract: from 2^63 on a number stands for one below 0.
 use borrow.Author.Needs.{needs}
 use native.Mathlib.Omega.{arith}
-use Prim.Native.Nat.{_-_}
 use Rattle.board_records.proofs.Bits.{high-is, low-fits, low-is}
 use Rattle.board_records.proofs.signed.Statement.{statement}
 use Rattle.board_records.proofs.signed.Tie as tie

@@ -1,7 +1,6 @@
 -- `board_records::step` meets its contract: one law for each way.
 use borrow.Author.Needs.{needs}
 use native.Mathlib.Omega.{arith}
-use Prim.Native.Nat.{_-_}
 use Rattle.bodies.specs.Bodies.{fixedLen}
 use Rattle.bodies.proofs.Lengths.{fixed-at, from-seventeen, of-fixed, of-resource, from-one}
 use Rattle.board_records.proofs.Doing.{steps-diary, steps-add, steps-entry, steps-order, steps-part}

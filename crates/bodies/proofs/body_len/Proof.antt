@@ -2,7 +2,7 @@
 use borrow.Author.Needs.{needs}
 use native.Mathlib.Omega.{arith}
 use mathlib.Core.Path.{sym, ap, _∙_}
-use Prim.Native.Nat.{ℕ, _+_, _-_}
+use Prim.Native.Nat.{ℕ, _+_}
 use Rattle.bodies.proofs.Lengths.{of-fixed, of-resource, whole-cut, body-of}
 use Rattle.bodies.proofs.body_len.Statement.{statement}
 use Rattle.bodies.proofs.body_len.Tie as tie

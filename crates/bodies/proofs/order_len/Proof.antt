@@ -1,7 +1,6 @@
 -- `bodies::order_len` meets its contract: by its kind, the length is the definition's.
 use native.Mathlib.Omega.{arith}
 use mathlib.Core.Path.{sym}
-use Prim.Native.Nat.{_-_}
 use Rattle.bodies.specs.Bodies.{fixedLen}
 use Rattle.bodies.proofs.Lengths.{fixed-at, unknown}
 use Rattle.bodies.proofs.order_len.Statement.{statement}

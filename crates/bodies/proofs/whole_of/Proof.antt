@@ -1,6 +1,5 @@
 -- `bodies::whole_of` meets its contract.
 use native.Mathlib.Omega.{arith}
-use Prim.Native.Nat.{_-_}
 use Rattle.bodies.proofs.Lengths.{whole-cut, whole-there}
 use Rattle.bodies.proofs.whole_of.Statement.{statement}
 use Rattle.bodies.proofs.whole_of.Tie as tie

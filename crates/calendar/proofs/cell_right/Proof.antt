@@ -1,5 +1,4 @@
 -- `calendar::cell_right` meets its contract.
-use Prim.Native.Nat.{_-_}
 use borrow.Author.Tests.{lt-ltb, le-ltb, eq-eqb, ne-eqb}
 use Rattle.calendar.specs.Valid.{cellRight}
 use Rattle.calendar.proofs.cell_right.Statement.{statement}

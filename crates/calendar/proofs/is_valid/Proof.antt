@@ -2,7 +2,6 @@
 use borrow.Author.Needs.{needs}
 use borrow.Author.Tests.{not-true, not-false}
 use mathlib.Core.Path.{refl, sym, _∙_}
-use Prim.Native.Nat.{_-_}
 use Rattle.calendar.specs.Valid.{valid}
 use Rattle.calendar.proofs.is_valid.Statement.{statement}
 use Rattle.calendar.proofs.is_valid.Tie as tie

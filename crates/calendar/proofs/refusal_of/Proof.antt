@@ -2,7 +2,6 @@
 use borrow.Author.Needs.{needs}
 use borrow.Author.Tests.{not-true, not-false}
 use mathlib.Core.Path.{sym, _∙_}
-use Prim.Native.Nat.{_-_}
 use native.Mathlib.Omega.{arith}
 use Rattle.calendar.proofs.Adding.{refuse-15, refuse-start, refuse-end, refuse-2, refuse-4, refuse-none}
 use Rattle.calendar.proofs.refusal_of.Statement.{statement}

@@ -1,7 +1,6 @@
 -- `calendar::with_span` meets its contract.
 use borrow.Author.Needs.{needs}
 use mathlib.Core.Path.{refl}
-use Prim.Native.Nat.{_-_}
 use Rattle.calendar.specs.Add.{withSpan}
 use Rattle.calendar.proofs.with_span.Statement.{statement}
 use Rattle.calendar.proofs.with_span.Tie as tie

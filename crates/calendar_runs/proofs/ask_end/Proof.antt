@@ -1,7 +1,6 @@
 -- `calendar_runs::ask_end` meets its contract.
 use borrow.Author.Needs.{needs}
 use borrow.Author.Tests.{not-false}
-use Prim.Native.Nat.{_-_}
 use native.Mathlib.Omega.{arith}
 use Rattle.calendar_runs.proofs.ask_end.Statement.{statement}
 use Rattle.calendar_runs.proofs.ask_end.Tie as tie

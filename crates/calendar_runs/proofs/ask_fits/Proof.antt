@@ -2,7 +2,6 @@
 use borrow.Author.Needs.{needs}
 use borrow.Author.Tests.{not-false}
 use mathlib.Core.Path.{sym, _∙_}
-use Prim.Native.Nat.{_-_}
 use Rattle.calendar_runs.proofs.ask_fits.Statement.{statement}
 use Rattle.calendar_runs.proofs.ask_fits.Tie as tie
 

@@ -1,6 +1,5 @@
 -- `calendar_runs::main` meets its contract.
 use borrow.Author.Needs.{needs}
-use Prim.Native.Nat.{_-_}
 use Rattle.calendar_runs.proofs.main.Statement.{statement}
 use Rattle.calendar_runs.proofs.main.Tie as tie
 

@@ -1,6 +1,6 @@
 -- `calendar_runs::number` meets its contract.
 use borrow.Author.Needs.{needs}
-use Prim.Native.Nat.{_+_, _-_, _≤_}
+use Prim.Native.Nat.{_+_, _≤_}
 use native.Mathlib.Omega.{arith}
 use Rattle.calendar_runs.proofs.number.Statement.{statement}
 use Rattle.calendar_runs.proofs.number.Tie as tie

@@ -1,6 +1,5 @@
 -- `calendar_runs::record` meets its contract.
 use borrow.Author.Needs.{needs}
-use Prim.Native.Nat.{_-_}
 use native.Mathlib.Omega.{arith}
 use lib.ListN.{length-take}
 use Rattle.calendar_runs.proofs.record.Statement.{statement}

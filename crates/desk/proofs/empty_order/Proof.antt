@@ -2,7 +2,6 @@
 use borrow.Author.Needs.{needs}
 use mathlib.Core.Path.{ap, _∙_}
 use mathlib.Core.Bool.{false}
-use Prim.Native.Nat.{_-_}
 use Rattle.desk.specs.Desk.{orderWith, emptyOrder}
 use Rattle.activity.specs.declared.Release.the-variants.{Absent}
 use mathlib.Core.Bool.{false}

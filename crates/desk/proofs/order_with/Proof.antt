@@ -1,6 +1,5 @@
 -- `desk::order_with` meets its contract.
 use mathlib.Core.Path.{refl}
-use Prim.Native.Nat.{_-_}
 use Rattle.desk.specs.Desk.{orderWith}
 use Rattle.desk.proofs.order_with.Statement.{statement}
 use Rattle.desk.proofs.order_with.Tie as tie

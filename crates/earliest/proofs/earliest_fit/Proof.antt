@@ -1,6 +1,5 @@
 -- `earliest::earliest_fit` meets its contract.
 use mathlib.Core.Path.{_≡_, refl, sym, _∙_}
-use Prim.Native.Nat.{_-_}
 use native.Mathlib.Omega.{arith}
 use Rattle.earliest.specs.Steps.{startOf}
 use Rattle.work_starts.proofs.Finding.{fit-above}

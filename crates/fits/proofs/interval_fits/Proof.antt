@@ -1,6 +1,5 @@
 -- `fits::interval_fits` meets its contract.
 use mathlib.Core.Path.{sym, _∙_}
-use Prim.Native.Nat.{_-_}
 use Rattle.calendar.specs.Fits.{fits}
 use Rattle.calendar.proofs.Rules.{right, windows-right, blocks-right}
 use Rattle.calendar.specs.Spanning.{shut-by, open-by-none, open-by-some}

@@ -1,7 +1,6 @@
 -- `offer_lines::shown` meets its contract: case by case.
 use borrow.Author.Needs.{needs}
 use mathlib.Core.Path.{sym, ap}
-use Prim.Native.Nat.{_-_}
 use Rattle.offer_records.specs.Offers.{shown}
 use Rattle.offer_lines.proofs.shown.Statement.{statement}
 use Rattle.offer_lines.proofs.shown.Tie as tie

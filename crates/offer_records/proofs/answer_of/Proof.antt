@@ -1,7 +1,6 @@
 -- `offer_records::answer_of` meets its contract: case by case.
 use borrow.Author.Needs.{needs}
 use mathlib.Core.Path.{sym, ap}
-use Prim.Native.Nat.{_-_}
 use Rattle.offer_records.specs.Offers.{answerOf}
 use Rattle.offer_records.proofs.answer_of.Statement.{statement}
 use Rattle.offer_records.proofs.answer_of.Tie as tie

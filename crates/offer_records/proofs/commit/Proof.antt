@@ -1,7 +1,6 @@
 -- `offer_records::commit` meets its contract.
 use borrow.Author.Needs.{needs}
 use mathlib.Core.Path.{refl}
-use Prim.Native.Nat.{_-_}
 use Rattle.offer_records.proofs.Offering.{commits}
 use Rattle.offer_records.proofs.commit.Statement.{statement}
 use Rattle.offer_records.proofs.commit.Tie as tie

@@ -1,7 +1,6 @@
 -- `offer_records::offer_len` meets its contract.
 use borrow.Author.Needs.{needs}
 use native.Mathlib.Omega.{arith}
-use Prim.Native.Nat.{_-_}
 use Rattle.bodies.proofs.Lengths.{whole-cut, whole-there, body-le}
 use Rattle.offer_records.proofs.Lengths.{of-placing, of-committing, of-other}
 use Rattle.offer_records.proofs.offer_len.Statement.{statement}

@@ -1,6 +1,5 @@
 -- `offer_records::place` meets its contract.
 use borrow.Author.Needs.{needs}
-use Prim.Native.Nat.{_-_}
 use Rattle.offer_records.proofs.Offering.{placed-answer, placed-slate}
 use Rattle.offer_records.proofs.place.Statement.{statement}
 use Rattle.offer_records.proofs.place.Tie as tie

@@ -2,7 +2,7 @@
 use borrow.Author.Needs.{needs}
 use native.Mathlib.Omega.{arith}
 use mathlib.Core.Path.{refl}
-use Prim.Native.Nat.{_+_, _-_}
+use Prim.Native.Nat.{_+_}
 use Rattle.bodies.specs.Bodies.{byte}
 use Rattle.offer_records.proofs.Lengths.{placing-room, committing-room, other-room}
 use Rattle.offer_records.proofs.Offering.{turn-none, turn-unknown, turn-placed, turn-committed, turn-stepped}

@@ -1,6 +1,5 @@
 -- `offer_records::told` meets its contract.
 use native.Mathlib.Omega.{arith}
-use Prim.Native.Nat.{_-_}
 use Rattle.offer_records.proofs.Offering.{told-taken, told-refused}
 use Rattle.offer_records.proofs.told.Statement.{statement}
 use Rattle.offer_records.proofs.told.Tie as tie

@@ -4,14 +4,14 @@ use borrow.Author.Tests.{not-true, not-false}
 use mathlib.Core.Path.{_≡_, refl, sym, _∙_}
 use mathlib.Core.Bool.{true, false}
 use mathlib.Core.List.{List}
-use Prim.Native.Nat.{ℕ, zero, suc}
+use Prim.Native.Nat.{ℕ}
 use lib.ListN.{take}
 use Rattle.calendar.specs.Refusals.{refusedOr, refused-by}
 use Rattle.calendar.specs.Valid.{valid}
 use Rattle.activity.specs.declared.ActivityDuration.{ActivityDuration}
 use Rattle.activity.specs.declared.Activity.{Activity}
 use Rattle.activity.specs.Durations.{durationOn}
-use Rattle.activity.specs.Check.{DurationReply, lasts, refused, replyOf, heldRight, activityRefusal, durationReply}
+use Rattle.activity.specs.Check.{lasts, refused, replyOf, heldRight, activityRefusal, durationReply}
 use Rattle.activity.proofs.Judging.{held-says, accepted}
 use Rattle.order_durations.proofs.duration_on.Statement.{statement}
 use Rattle.order_durations.proofs.duration_on.Tie as tie

@@ -6,7 +6,7 @@ use Rattle.timeline.specs.declared.ResourceTimeline.{ResourceTimeline}
 use Rattle.timeline.specs.Bookings.{bookings, total}
 use Rattle.timeline.specs.Valid.{valid}
 use Rattle.timeline.proofs.Rules.{rules}
-use Rattle.readings.specs.Reading.{Read, value, refused, read, bookedRead}
+use Rattle.readings.specs.Reading.{value, refused, read, bookedRead}
 use Rattle.readings.proofs.booked_ms.Statement.{statement}
 use Rattle.readings.proofs.booked_ms.Tie as tie
 

@@ -4,7 +4,7 @@ use mathlib.Core.Logic.{⊎-elim}
 use mathlib.Core.Path.{_≡_, refl}
 use Prim.Native.Nat.{_-_, _≤_}
 use native.Mathlib.Omega.{arith}
-use Rattle.board.specs.Transport.{greatest}
+use Rattle.board.specs.Transport.{greatestTransport}
 use Rattle.board.specs.Places.{anywhere}
 use Rattle.calendar.specs.Sets.{bit-yes, bit-no}
 use Rattle.board.proofs.Masks.{greatest-hit, greatest-miss}
@@ -12,13 +12,13 @@ use Rattle.setups.proofs.transport_between.Statement.{statement}
 use Rattle.setups.proofs.transport_between.Tie as tie
 
 abbrev Inv-loop : tie.InvT-loop
-Inv-loop transport origins to column most₀ n₀ most n = (column ≡ to) × (n ≤ 16) × (most ≡ greatest anywhere transport origins to n)
+Inv-loop transport origins to column most₀ n₀ most n = (column ≡ to) × (n ≤ 16) × (most ≡ greatestTransport anywhere transport origins to n)
 
 abbrev μ-loop : tie.MeasureT-loop
 μ-loop transport origins to column most₀ n₀ most n = 16 - n
 
 loop-holds : tie.Need-loop-holds Inv-loop μ-loop
-unfolding greatest
+unfolding greatestTransport
 loop-holds c = (refl, omega arith, refl)
 
 cast-if1 : tie.Need-cast-if1 Inv-loop μ-loop

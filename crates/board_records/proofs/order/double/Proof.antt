@@ -3,7 +3,6 @@ use borrow.Author.Needs.{needs}
 use native.Mathlib.Omega.{arith}
 use mathlib.Core.Path.{sym}
 use mathlib.Core.Bool.{not}
-use Prim.Native.Nat.{_-_}
 use Rattle.board_records.proofs.Bits.{no-nan, nan-is}
 use lib.Dec.{T}
 use mathlib.Core.Path.{subst}

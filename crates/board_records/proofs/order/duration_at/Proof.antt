@@ -1,7 +1,6 @@
 -- `board_records::order::duration_at` meets its contract.
 use borrow.Author.Needs.{needs}
 use mathlib.Core.Path.{refl}
-use Prim.Native.Nat.{_-_}
 use Rattle.board_records.proofs.order.duration_at.Statement.{statement}
 use Rattle.board_records.proofs.order.duration_at.Tie as tie
 

@@ -1,7 +1,6 @@
 -- `board_records::order::part` meets its contract: a requirement, or a timing.
 use borrow.Author.Needs.{needs}
 use native.Mathlib.Omega.{arith}
-use Prim.Native.Nat.{_-_}
 use Rattle.bodies.specs.Bodies.{fixedLen}
 use Rattle.bodies.proofs.Lengths.{fixed-at, nine}
 use Rattle.board_records.proofs.Ordering.{part-more, part-above, part-timed}

@@ -1,6 +1,5 @@
 -- `board_records::order::release_of` meets its contract.
 use native.Mathlib.Omega.{arith}
-use Prim.Native.Nat.{_-_}
 use Rattle.board_records.proofs.Ordering.{released, unreleased}
 use Rattle.board_records.proofs.order.release_of.Statement.{statement}
 use Rattle.board_records.proofs.order.release_of.Tie as tie

@@ -1,7 +1,6 @@
 -- `board_records::order::timing_at` meets its contract.
 use borrow.Author.Needs.{needs}
 use native.Mathlib.Omega.{arith}
-use Prim.Native.Nat.{_-_}
 use Rattle.bodies.specs.Bodies.{fixedLen}
 use Rattle.bodies.proofs.Lengths.{fixed-at}
 use Rattle.board_records.proofs.Ordering.{speed-is, own-is}

@@ -1,7 +1,6 @@
 -- `board_records::order::with_requirement` meets its contract: above four, the fifth, one that is kept.
 use borrow.Author.Needs.{needs}
 use native.Mathlib.Omega.{arith}
-use Prim.Native.Nat.{_-_}
 use Rattle.board_records.proofs.Ordering.{required-more, required-fifth, required-kept}
 use Rattle.board_records.proofs.order.with_requirement.Statement.{statement}
 use Rattle.board_records.proofs.order.with_requirement.Tie as tie

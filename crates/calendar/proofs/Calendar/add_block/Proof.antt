@@ -1,7 +1,6 @@
 -- `calendar::Calendar::add_block` meets its contract.
 use borrow.Author.Needs.{needs}
 use mathlib.Core.Path.{sym, ap, _∙_}
-use Prim.Native.Nat.{_-_}
 use Rattle.calendar.specs.Valid.{spansRight}
 use Rattle.calendar.specs.Add.{addBlock}
 use Rattle.calendar.proofs.Adding.{taken, added-refused, block-taken, span-right, valid-join}

@@ -1,7 +1,6 @@
 -- `calendar::Calendar::add_window` meets its contract.
 use borrow.Author.Needs.{needs}
 use mathlib.Core.Path.{sym, ap, _∙_}
-use Prim.Native.Nat.{_-_}
 use Rattle.calendar.specs.Valid.{spansRight}
 use Rattle.calendar.specs.Add.{addWindow}
 use Rattle.calendar.proofs.Adding.{taken, added-refused, window-taken, span-right, valid-join}

@@ -1,6 +1,5 @@
 -- `calendar::Calendar::new` meets its contract.
 use mathlib.Core.Path.{refl}
-use Prim.Native.Nat.{_-_}
 use Rattle.calendar.specs.Add.{empty}
 use Rattle.calendar.proofs.Calendar.new.Statement.{statement}
 use Rattle.calendar.proofs.Calendar.new.Tie as tie

@@ -1,7 +1,6 @@
 -- `desk::Desk::new` meets its contract: its three parts are empty.
 use borrow.Author.Needs.{needs}
 use mathlib.Core.Path.{refl}
-use Prim.Native.Nat.{_-_}
 use Rattle.desk.specs.Desk.{emptyDesk}
 use Rattle.desk.proofs.Desk.new.Statement.{statement}
 use Rattle.desk.proofs.Desk.new.Tie as tie

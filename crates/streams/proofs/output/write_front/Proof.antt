@@ -1,6 +1,5 @@
 -- `streams::output::write_front` meets its contract: a front of a slice is as long as it says.
 use borrow.Author.Needs.{needs}
-use Prim.Native.Nat.{_-_}
 use native.Mathlib.Omega.{arith}
 use lib.ListN.{length-take}
 use Rattle.streams.proofs.output.write_front.Statement.{statement}
