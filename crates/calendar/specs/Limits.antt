@@ -26,3 +26,7 @@ longestSpan = 2 ^ 53
 -- setup, process, teardown, transport: 0 to 2^36 ms each
 abbrev pub longestDuration : ℕ
 longestDuration = 2 ^ 36
+
+-- not one of them: 2^63, after every instant that can be reached, stands for 'none' where numbers are kept
+abbrev pub never : ℕ
+never = 2 ^ 63
