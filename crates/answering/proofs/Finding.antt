@@ -8,7 +8,6 @@ use lib.ListN.{getD, length}
 use lib.Seq.{getD-take, length-take-le}
 use Rattle.calendar.specs.Every.{every}
 use Rattle.calendar.specs.Search.{Found, nothing, at}
-use Rattle.calendar.specs.Meaning.{not-at, least-found}
 use Rattle.activity.specs.declared.ResourceRequirement.{ResourceRequirement}
 use Rattle.activity.specs.declared.Activity.{Activity}
 use Rattle.activity.specs.Serving.{serves}
@@ -27,7 +26,8 @@ use Rattle.scheduler.specs.Arrays.{each-at}
 use Rattle.scheduler.specs.Together.{Sound}
 use Rattle.scheduler.specs.Latest.{last-small}
 use Rattle.scheduler.specs.Ruled.{all-kept, all-there}
-use Rattle.scheduler.specs.Answering.{Kept, Answers, answers-same, alone-answers}
+use Rattle.calendar.specs.Searching.{Answers, answers-same, not-at, least-found}
+use Rattle.scheduler.specs.Answering.{Kept, alone-answers}
 use Rattle.answering.specs.Tables.{foundAt, numberOf}
 
 -- span and arrival of a resource alone are in range
@@ -63,7 +63,7 @@ start-by b r usage resumable span from s k = go (every (onBoard b) (companionsOf
     xs = withCompanions b r usage
 
     go : (c : Bool) → every (onBoard b) (companionsOf r) ≡ c → cond c (earliestOf resumable span xs from) nothing ≡ at s → s ≤ max from (2 ^ 42)
-    go true e f = omega (arith, least-found (allStart resumable span xs) from (suc (lastOf xs - from)) s f .high, last-small xs (k e))
+    go true e f = omega (arith, least-found (allStart resumable span xs) from (suc (lastOf xs - from)) s f .1, last-small xs (k e))
     go false e f = absurd (not-at s f)
 
 -- of each requirement at least a unit is wanted

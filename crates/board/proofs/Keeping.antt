@@ -9,7 +9,7 @@ use lib.ListN.{length, getD, getD-replicate}
 use lib.Seq.{getD-set-same, getD-set-other}
 use Rattle.calendar.specs.Basics.{and-split, same-or-not, or-true}
 use Rattle.calendar.specs.Search.{Found, nothing, at, leastFrom}
-use Rattle.calendar.specs.Meaning.{least-same}
+use Rattle.calendar.specs.Searching.{least-same}
 use Rattle.calendar.specs.Every.{everyFrom}
 use Rattle.board.specs.Enter.{blankResource, emptyBoard, withResource, changed}
 use Rattle.board.specs.Resources.{noResource, resourceAt, numberAt, lookupTo, lookup, isAt, onBoard}

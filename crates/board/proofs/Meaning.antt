@@ -26,7 +26,7 @@ use Rattle.board.specs.declared.TransitionMatrix.{TransitionMatrix}
 use Rattle.calendar.specs.Every.{everyFrom, from-at}
 use Rattle.board.proofs.Facts.{rules}
 use Rattle.board.proofs.Seeing.{lookup-below, lookup-number, nothing-of}
-use Rattle.calendar.specs.Meaning.{least-none, least-is}
+use Rattle.calendar.specs.Searching.{least-none, least-is}
 use Rattle.timeline.specs.Valid as timeline
 
 -- on a valid board a resource stands where its number is looked up
@@ -36,10 +36,9 @@ lookup-is b v i l =
     let r = rules b v in
     least-is _ 0 (b .len) i (record {
       low = omega arith;
-      high = omega arith;
       holds = eq-eqb (numberAt b i) (numberAt b i) refl;
       first = λ x a m. least-none (λ k. eqb (numberAt b k) (numberAt b i)) 0 i (nothing-of _ (r .new i l)) x a (omega arith);
-    })
+    }) (omega arith)
 
 -- .. and what is looked up is on the board and has the number
 pub lookup-means : (b : Board) (number i : ℕ) → lookup b number ≡ at i → (i < b .len) × (numberAt b i ≡ number)

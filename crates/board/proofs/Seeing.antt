@@ -14,16 +14,16 @@ use Rattle.calendar.specs.Search.{Found, nothing, at, leastFrom}
 use Rattle.board.specs.Places.{placeOf}
 use Rattle.board.specs.Resources.{numberAt, lookupTo, isAt}
 use Rattle.board.specs.declared.Board.{Board}
-use Rattle.calendar.specs.Meaning.{least-found, least-none, least-is}
+use Rattle.calendar.specs.Searching.{least-found, least-none, least-is}
 
 module _ (P : ℕ → Bool) (n : ℕ) where
   least-kept : (k : ℕ) → leastFrom P 0 n ≡ at k → leastFrom P 0 (suc n) ≡ at k
   least-kept k e =
       let r = least-found P 0 n k e in
-      least-is P 0 (suc n) k (record { low = omega arith; high = omega (arith, r .high); holds = r .holds; first = r .first })
+      least-is P 0 (suc n) k (r .0) (omega (arith, r .1))
 
   least-new : leastFrom P 0 n ≡ nothing → P n ≡ true → leastFrom P 0 (suc n) ≡ at n
-  least-new e h = least-is P 0 (suc n) n (record { low = omega arith; high = omega arith; holds = h; first = λ x a l. least-none P 0 n e x a (omega arith) })
+  least-new e h = least-is P 0 (suc n) n (record { low = omega arith; holds = h; first = λ x a l. least-none P 0 n e x a (omega arith) }) (omega arith)
 
   least-not : leastFrom P 0 n ≡ nothing → P n ≡ false → leastFrom P 0 (suc n) ≡ nothing
   least-not e h = go (leastFrom P 0 (suc n)) refl
@@ -33,21 +33,21 @@ module _ (P : ℕ → Bool) (n : ℕ) where
       go (at s) q =
           let r = least-found P 0 (suc n) s q in
           ⊎-elim
-          (λ (z : s < n). absurd (not-both (P s) (r .holds) (least-none P 0 n e s (omega arith) (omega arith))))
+          (λ (z : s < n). absurd (not-both (P s) (r .0 .holds) (least-none P 0 n e s (omega arith) (omega arith))))
           (λ (z : n ≤ s).
-          let w : s ≡ n = omega (arith, r .high) in
-          absurd (not-both (P n) (rw w at (r .holds)) h))
+          let w : s ≡ n = omega (arith, r .1) in
+          absurd (not-both (P n) (rw w at (r .0 .holds)) h))
           (lt-or-ge s n)
 
 -- a place that is found is one of those looked at
 pub lookup-below : (b : Board) (i n k : ℕ) → lookupTo b i n ≡ at k → k < i
 unfolding lookupTo
-lookup-below b i n k e = let r = least-found _ 0 i k e in omega (arith, r .high)
+lookup-below b i n k e = let r = least-found _ 0 i k e in omega (arith, r .1)
 
 -- .. and has the number
 pub lookup-number : (b : Board) (i n k : ℕ) → lookupTo b i n ≡ at k → numberAt b k ≡ n
 unfolding lookupTo
-lookup-number b i n k e = eqb-true _ _ (least-found (λ j. eqb (numberAt b j) n) 0 i k e .holds)
+lookup-number b i n k e = eqb-true _ _ (least-found (λ j. eqb (numberAt b j) n) 0 i k e .0 .holds)
 
 pub place-on : (b : Board) (i n : ℕ) → i ≤ 16 → ltb (placeOf (lookupTo b i n)) 16 ≡ isAt (lookupTo b i n)
 unfolding placeOf isAt

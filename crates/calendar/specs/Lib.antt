@@ -6,11 +6,15 @@ pub mod Sets
 pub mod Search
 pub mod Basics
 pub mod Every
+pub mod Cells
 pub mod Spans
 pub mod Valid
 pub mod Fits
 pub mod Work
 pub mod Add
 pub mod Spanning
+pub mod Searching
+pub mod WorkEnds
 pub mod Meaning
+pub mod StepsBack
 pub mod Runs

@@ -1,16 +1,19 @@
--- One of several spans passes a test: how the loops go on, and the tests as facts.
+-- One of several spans passes a test: how the loops go on, and the tests as facts; a span that is taken.
 use mathlib.Core.Path.{_≡_, refl, sym, ap, _∙_}
 use mathlib.Core.Bool.{Bool, true, false, not, _&&_, _||_}
+use mathlib.Core.List.{[], _∷_, _++_}
 use mathlib.Core.Logic.{⊎-elim}
 use Prim.Native.Nat.{ℕ, zero, suc, _+_, _-_, _≤_, _<_}
 use native.Mathlib.Numerals.{add-one}
 use native.Mathlib.Omega.{arith}
 use lib.ListN.{getD, length}
+use lib.Seq.{getD-set-same, getD-set-other}
 use lib.Dec.{leb, ltb}
 use borrow.Author.Tests.{leb-true, ltb-true, le-leb, lt-ltb}
 use Rattle.calendar.specs.declared.TimeWindows.{TimeWindows}
 use Rattle.calendar.specs.Spans.{Span, spanAt, spansFrom, spans, any, holds, meets, contains}
 use Rattle.calendar.specs.Fits.{openFor}
+use Rattle.calendar.specs.Add.{withSpan}
 use Rattle.calendar.specs.Basics.{and-split, and-true, and-false, or-true, or-false, or-assoc, not-both, no-way, lt-or-ge}
 
 -- the cells from cell i on as a list
@@ -150,3 +153,34 @@ meets-no s e w f = no-way _ (λ t. let h = meets-facts s e w t in f (h .0) (h .1
 
 pub contains-no : (p : ℕ) (w : Span) → (w .start ≤ p → p < w .end → ⊥) → contains p w ≡ false
 contains-no p w f = no-way _ (λ t. let h = contains-facts p w t in f (h .0) (h .1))
+
+-- A span that is taken stands behind the others.
+spans-kept : (l : TimeWindows) (s e i k : ℕ) → i + k ≤ l .len → spansFrom (withSpan l s e) i k ≡ spansFrom l i k
+unfolding spansFrom withSpan
+spans-kept l s e i zero h = refl
+spans-kept l s e i (suc k) h =
+    let q : i ≡ l .len → ⊥ = λ z. omega arith in
+    rw (getD-set-other (l .starts) (l .len) i s 0 q, getD-set-other (l .ends) (l .len) i e 0 q, spans-kept l s e (suc i) k (omega arith)) refl
+
+spans-last : (l : TimeWindows) (i k : ℕ) → spansFrom l i (suc k) ≡ spansFrom l i k ++ (spanAt l (i + k) ∷ [])
+unfolding spansFrom
+spans-last l i zero =
+    let z : i + 0 ≡ i = omega arith in
+    rw z refl
+spans-last l i (suc k) =
+    let z : i + suc k ≡ suc i + k = omega arith in
+    rw (z, ← spans-last l (suc i) k) refl
+
+span-new : (l : TimeWindows) (s e : ℕ) → l .len < length (l .starts) → l .len < length (l .ends) → spanAt (withSpan l s e) (0 + l .len) ≡ record { start = s; end = e }
+unfolding withSpan
+span-new l s e a b =
+    let z : 0 + l .len ≡ l .len = omega arith in
+    rw (z, getD-set-same (l .starts) (l .len) s 0 a, getD-set-same (l .ends) (l .len) e 0 b) refl
+
+len-more : (l : TimeWindows) (s e : ℕ) → withSpan l s e .len ≡ suc (l .len)
+unfolding withSpan
+len-more l s e = add-one (l .len)
+
+pub span-added : (l : TimeWindows) (s e : ℕ) → l .len < length (l .starts) → l .len < length (l .ends) → spans (withSpan l s e) ≡ spans l ++ (record { start = s; end = e } ∷ [])
+span-added l s e a b =
+    ap (spansFrom (withSpan l s e) 0) (len-more l s e) ∙ spans-last (withSpan l s e) 0 (l .len) ∙ rw (spans-kept l s e 0 (l .len) (omega arith), span-new l s e a b) refl

@@ -1,13 +1,9 @@
 -- What the parts of booking answer, on the columns.
 use mathlib.Core.Path.{_≡_}
-use Prim.Native.Nat.{ℕ, zero, suc, _-_, _≤_, _<_, max}
+use Prim.Native.Nat.{ℕ, _-_, _≤_, _<_, max}
 use mathlib.Core.List.{List}
 use lib.ListN.{getD}
-
--- the cell before cell i, 0 before the first
-unfoldable pub before : List ℕ → ℕ → ℕ
-before xs zero = 0
-before xs (suc i) = getD xs i 0
+use Rattle.calendar.specs.Cells.{before}
 
 -- r is xs with v put in at index i, and the cells from there to n moved up by one
 pub record Opened (xs : List ℕ) (i n v : ℕ) (r : List ℕ) : Type 0 where

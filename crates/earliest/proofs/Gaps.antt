@@ -14,7 +14,8 @@ use Rattle.calendar.specs.Fits.{fits}
 use Rattle.calendar.specs.Meaning.{fits-is}
 use Rattle.timeline.specs.declared.ResourceTimeline.{ResourceTimeline}
 use Rattle.timeline.specs.Bookings.{Booking, bookingAt, bookings}
-use Rattle.timeline.specs.Valid.{before, valid}
+use Rattle.calendar.specs.Cells.{before}
+use Rattle.timeline.specs.Valid.{valid}
 use Rattle.timeline.specs.Free.{onAt, tally, load}
 use Rattle.timeline.specs.Earliest.{freeOn, fitsAt, earliestFit}
 use Rattle.timeline.proofs.Rules.{Rules, rules}
@@ -22,7 +23,7 @@ use Rattle.timeline.proofs.Rows.{none, count, booking-at}
 use Rattle.timeline.proofs.Loading.{On, on, is-on, During, free-yes, free-no}
 use Rattle.timeline.proofs.Searching.{Sought}
 use Rattle.timeline.proofs.Columns.{columns, none-to}
-use Rattle.work_starts.proofs.Finding.{fit-found}
+use Rattle.earliest.proofs.Fitting.{fit-found}
 
 -- a booking that is on counts
 load-ge : (bs : List Booking) (s e p k : ℕ) → k < length bs → On (getD bs k none .start) (getD bs k none .end) s e p → getD bs k none .units ≤ load bs s e p

@@ -1,2 +1,3 @@
 -- Laws on plain values, for the proofs of this crate and of those above it.
+pub mod Fitting
 pub mod Gaps

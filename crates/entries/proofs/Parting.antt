@@ -7,7 +7,7 @@ use native.Mathlib.Omega.{arith}
 use lib.ListN.{length, getD, set, take, length-take}
 use lib.Seq.{getD-set-same, getD-set-other, length-take-le, getD-take}
 use mathlib.Core.Logic.{⊎-elim}
-use Rattle.calendar.specs.Meaning.{greatest-most}
+use Rattle.calendar.specs.Searching.{greatest-most}
 use Rattle.calendar.specs.Basics.{same-or-not}
 use Rattle.activity.specs.declared.ActivityDuration.{ActivityDuration}
 use Rattle.activity.specs.declared.Activity.{Activity}

@@ -10,21 +10,22 @@ use borrow.Author.Tests.{lt-leb}
 use Rattle.calendar.specs.declared.Calendar.{Calendar}
 use Rattle.calendar.specs.Basics.{lt-or-ge, not-both}
 use Rattle.calendar.specs.Work.{joint, workEnd, lastChange, jointEnd}
-use Rattle.calendar.specs.Meaning.{Changeless, work-end-same, joint-changeless}
-use Rattle.work_ends.specs.Layout.{passed, odd, laid, lastCell, Edges, Layout, Before}
+use Rattle.calendar.specs.WorkEnds.{Changeless, work-end-same, joint-changeless}
+use Rattle.calendar.specs.Cells.{before}
+use Rattle.work_ends.specs.Layout.{passed, odd, laid, Edges, Layout, Before}
 use Rattle.work_ends.proofs.Passing.{passed-all}
 use Rattle.work_ends.proofs.Walking.{last-most}
 
 -- past its last edge a layout changes no more
-pub laid-changeless : (xs : List ℕ) (n : ℕ) → Edges xs n → Changeless (lastCell xs n) (laid xs n)
+pub laid-changeless : (xs : List ℕ) (n : ℕ) → Edges xs n → Changeless (before xs n) (laid xs n)
 unfolding laid
 laid-changeless xs n y q h =
-    ap odd (passed-all xs n q (λ k l. omega (arith, last-most xs n k y l)) ∙ sym (passed-all xs n (lastCell xs n) (λ k l. last-most xs n k y l)))
+    ap odd (passed-all xs n q (λ k l. omega (arith, last-most xs n k y l)) ∙ sym (passed-all xs n (before xs n) (λ k l. last-most xs n k y l)))
 
 -- work from x on, over a layout of what from x on is the joint working time of the calendars
-pub layout-end : (cs : List Calendar) (W : ℕ → Bool) (xs : List ℕ) (n x w : ℕ) → Layout W xs n → ((q : ℕ) → x ≤ q → W q ≡ joint cs q) → workEnd (lastCell xs n) (laid xs n) x w ≡ jointEnd cs x w
+pub layout-end : (cs : List Calendar) (W : ℕ → Bool) (xs : List ℕ) (n x w : ℕ) → Layout W xs n → ((q : ℕ) → x ≤ q → W q ≡ joint cs q) → workEnd (before xs n) (laid xs n) x w ≡ jointEnd cs x w
 layout-end cs W xs n x w y h =
-    work-end-same (lastCell xs n) (lastChange cs) (laid xs n) (joint cs) x w (laid-changeless xs n (y .edges)) (joint-changeless cs) (λ q l. y .means q ∙ h q l)
+    work-end-same (before xs n) (lastChange cs) (laid xs n) (joint cs) x w (laid-changeless xs n (y .edges)) (joint-changeless cs) (λ q l. y .means q ∙ h q l)
 
 -- the edges part at every instant
 pub parted : (xs : List ℕ) (n p : ℕ) → Edges xs n → Before xs n (p + 1) (passed xs n p)

@@ -13,9 +13,8 @@ use Rattle.calendar.specs.declared.Calendar.{Calendar}
 use Rattle.calendar.specs.declared.Added.{Added}
 use Rattle.calendar.specs.Valid.{valid}
 use Rattle.calendar.specs.Spans.{Span, spans}
-use Rattle.calendar.specs.Spanning.{spans-long}
+use Rattle.calendar.specs.Spanning.{spans-long, span-added}
 use Rattle.calendar.specs.Add.{addRefusal, withSpan, added, addWindow, addBlock}
-use Rattle.calendar.specs.Meaning.{span-added}
 use Rattle.calendar.proofs.Rules.{right, windows-right, blocks-right}
 use Rattle.calendar.proofs.Adding.{Taken, taken, refuse-15, refuse-4, refuse-none, span-right, valid-join}
 use Rattle.loader.specs.declared.TimeWindow.{TimeWindow}

@@ -11,7 +11,8 @@ use Rattle.calendar.specs.Fits.{openFor, fits}
 use Rattle.calendar.specs.Work.{latest, lastChange}
 use Rattle.calendar.specs.Add.{empty}
 use Rattle.timeline.specs.Bookings.{bookingsTo, total, latestEnd}
-use Rattle.timeline.specs.Valid.{before, cellRight, cellEmpty, valid}
+use Rattle.calendar.specs.Cells.{before}
+use Rattle.timeline.specs.Valid.{cellRight, cellEmpty, valid}
 use Rattle.timeline.specs.Free.{overlaps, onAt, tally, load, free}
 use Rattle.timeline.specs.Earliest.{fitsAt, lastEvent, earliestFit}
 use Rattle.timeline.specs.Diary.{capacityOf, insertBooking, latestEnds, diary}

@@ -6,7 +6,7 @@ use Prim.Native.Nat.{ℕ, suc, _^_, _≤_, _<_}
 use native.Mathlib.Omega.{arith}
 use Rattle.calendar.specs.Search.{Found, nothing, at}
 use Rattle.calendar.specs.Work.{jointEnd}
-use Rattle.calendar.specs.Meaning.{not-at}
+use Rattle.calendar.specs.Searching.{not-at}
 use Rattle.timeline.proofs.Searching.{Sought, sought-on, sought-found, sought-none}
 use Rattle.scheduler.specs.Alone.{Share, lastOf}
 use Rattle.scheduler.specs.Fitting.{calendarOf, allFree, freeToEnd}

@@ -13,10 +13,11 @@ use Rattle.calendar.specs.Every.{every, every-append}
 use Rattle.calendar.specs.declared.Calendar.{Calendar}
 use Rattle.calendar.specs.Basics.{and-true, not-both, same-or-not}
 use Rattle.calendar.specs.Search.{Found, nothing, at, when}
-use Rattle.calendar.specs.Meaning.{not-at}
+use Rattle.calendar.specs.Searching.{not-at}
 use Rattle.calendar.specs.Work.{joint, jointEnd, workEnd}
 use Rattle.calendar.specs.Valid as calendar
-use Rattle.work_ends.specs.Layout.{Layout, laid, lastCell}
+use Rattle.calendar.specs.Cells.{before}
+use Rattle.work_ends.specs.Layout.{Layout, laid}
 use Rattle.joint.specs.Layout.{Ruled, blank}
 use Rattle.joint.proofs.Ending.{layout-end}
 use Rattle.timeline.specs.declared.ResourceTimeline.{ResourceTimeline}
@@ -116,7 +117,7 @@ module _ (xs : List Share) (n work from : ℕ) (stops : List ℕ) where
 
     -- an instant to try, with no diary asked
     pub walks-begin : (edges : List ℕ) (len here end : ℕ) (free : Bool) → len ≤ 3201 → Layout (λ p. leb from p && joint (map calendarOf xs) p) edges len → Sought (suitsOn true xs work) from here
-        → (here < 2 ^ 63 → endIf free end ≡ workEnd (lastCell edges len) (laid edges len) here work) → Walks edges len here end free (2 ^ 63) 0
+        → (here < 2 ^ 63 → endIf free end ≡ workEnd (before edges len) (laid edges len) here work) → Walks edges len here end free (2 ^ 63) 0
     walks-begin edges len here end free short y s e = record {
       short = short;
       layout = y;
@@ -261,7 +262,7 @@ module _ (xs : List Share) (n work from : ℕ) (stops : List ℕ) where
       go false e = absurd (omega (arith, s .gathers e .start))
 
   pub state-begun : Sound xs → length xs ≡ n → (cs : List Calendar) (edges : List ℕ) (len next : ℕ) → length cs ≡ 25 → Onward edges len next → (x y : ℕ) (p : Bool) (z : ℕ) (q : Bool) → x ≡ next → z ≡ 2 ^ 63 → q ≡ true
-      → (next < 2 ^ 63 → endIf p y ≡ workEnd (lastCell edges len) (laid edges len) next work) → State cs edges len x y p z q 0
+      → (next < 2 ^ 63 → endIf p y ≡ workEnd (before edges len) (laid edges len) next work) → State cs edges len x y p z q 0
   state-begun sound long cs edges len next cells o x y p z q ex ez eq ends = record {
     few = omega arith;
     cells = cells;

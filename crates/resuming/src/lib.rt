@@ -15,7 +15,8 @@ ghost use lib.ListN.{length, take};
 ghost use Rattle.calendar.specs.Search.{nothing, at};
 ghost use Rattle.calendar.specs.Valid as calendar;
 ghost use Rattle.calendar.specs.Work.{workEnd};
-ghost use Rattle.work_ends.specs.Layout.{Edges, laid, lastCell};
+ghost use Rattle.calendar.specs.Cells.{before};
+ghost use Rattle.work_ends.specs.Layout.{Edges, laid};
 ghost use Rattle.timeline.specs.Valid as timeline;
 ghost use Rattle.timeline.specs.Earliest.{freeOn};
 ghost use Rattle.timeline.proofs.Stepping.{Still};
@@ -51,7 +52,7 @@ fn untried(x: u64) -> Trial
 // An instant with no diary asked yet; 2^63 has no end.
 fn begun(edges: &[u64], len: usize, x: u64, work: u64) -> Trial
     requires { ⌜ (len ≤ 3201) × (len ≤ length (now edges)) × (work ≤ 2 ^ 53) × Edges (now edges) len ⌝ }
-    ensures { λ r. ⌜ (r .at ≡ x) × (r .next ≡ 2 ^ 63) × (r .laid ≡ true) × (x < 2 ^ 63 → cond (r .free) (at (r .end)) nothing ≡ workEnd (lastCell (now (edges .entry)) len) (laid (now (edges .entry)) len) x work) ⌝ }
+    ensures { λ r. ⌜ (r .at ≡ x) × (r .next ≡ 2 ^ 63) × (r .laid ≡ true) × (x < 2 ^ 63 → cond (r .free) (at (r .end)) nothing ≡ workEnd (before (now (edges .entry)) len) (laid (now (edges .entry)) len) x work) ⌝ }
 {
     let mut t = untried(x);
     t.next = NEVER;

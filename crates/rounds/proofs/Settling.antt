@@ -8,7 +8,7 @@ use lib.ListN.{getD, length, take}
 use lib.Seq.{getD-take, length-take-le}
 use lib.Dec.{eqb}
 use borrow.Author.Tests.{eq-eqb, ne-eqb}
-use Rattle.calendar.specs.Meaning.{greatest-most}
+use Rattle.calendar.specs.Searching.{greatest-most}
 use Rattle.calendar.specs.Basics.{not-both}
 use Rattle.activity.specs.declared.Activity.{Activity}
 use Rattle.activity.specs.Check.{requirementsOf, activityRefusal}

@@ -34,7 +34,7 @@ allStart resumable span xs s = every (λ x. canStart resumable span x s) xs
 unfoldable pub lastOf : List Share → ℕ
 lastOf xs = greatestOf (map (λ x. lastEvent (x .timeline)) xs)
 
--- the least start ≥ from on all of them (the bound cuts nothing off: Together.antt, `together-none`)
+-- the least start ≥ from on all of them (the bound cuts nothing off: Together.antt, `together-answers`)
 unfoldable pub earliestOf : Bool → ℕ → List Share → ℕ → Found
 earliestOf resumable span xs from = leastFrom (allStart resumable span xs) from (suc (lastOf xs - from))
 

@@ -1,5 +1,5 @@
 -- What a resource answers alone is the least instant at which it can start, without any bound.
-use mathlib.Core.Path.{_≡_, refl, sym, ap, _∙_}
+use mathlib.Core.Path.{_≡_, refl}
 use mathlib.Core.Bool.{Bool, true, false, _&&_, cond}
 use mathlib.Core.List.{List, [], _∷_, _++_}
 use mathlib.Core.Logic.{⊎-elim}
@@ -10,7 +10,7 @@ use lib.Dec.{leb}
 use borrow.Author.Tests.{leb-true, leb-false, le-leb, lt-leb}
 use Rattle.calendar.specs.Basics.{and-split, and-join, no-way, not-both, lt-or-ge}
 use Rattle.calendar.specs.Search.{Found, nothing, at}
-use Rattle.timeline.proofs.Meaning.{Earliest}
+use Rattle.calendar.specs.Searching.{Earliest, Answers}
 use Rattle.activity.specs.declared.ResourceRequirement.{ResourceRequirement}
 use Rattle.activity.specs.declared.Activity.{Activity}
 use Rattle.activity.specs.Serving.{serves}
@@ -22,26 +22,8 @@ use Rattle.scheduler.specs.Alone.{allStart, earliestOf, companionsOf, wi
 use Rattle.scheduler.specs.Choosing.{answer, candidates}
 use Rattle.scheduler.specs.Plain.{startsThere, candidateAt, startable}
 use Rattle.scheduler.specs.Lists.{Each, each-end, each-on}
-use Rattle.scheduler.specs.Together.{Sound, together-found, together-none}
+use Rattle.scheduler.specs.Together.{Sound, together-answers}
 use Rattle.scheduler.specs.Ranking.{low}
-
--- the least instant from t on at which P holds, or that it holds at none
-abbrev pub Answers : (ℕ → Bool) → ℕ → Found → Type 0
-Answers P t nothing = (x : ℕ) → t ≤ x → P x ≡ false
-Answers P t (at s) = Earliest P t s
-
--- two answers for tests that say the same are the same
-pub answers-same : (P Q : ℕ → Bool) (t : ℕ) (f g : Found) → ((x : ℕ) → t ≤ x → P x ≡ Q x) → Answers P t f → Answers Q t g → f ≡ g
-answers-same P Q t nothing nothing e p q = refl
-answers-same P Q t nothing (at s) e p q = absurd (not-both (Q s) (q .holds) (sym (e s (q .low)) ∙ p s (q .low)))
-answers-same P Q t (at s) nothing e p q = absurd (not-both (P s) (p .holds) (e s (p .low) ∙ q s (p .low)))
-answers-same P Q t (at r) (at s) e p q = ap at (⊎-elim (λ (l : r < s). before l) (λ (l : s ≤ r). ⊎-elim (λ (m : s < r). after m) (λ (m : r ≤ s). omega arith) (lt-or-ge s r)) (lt-or-ge r s))
-  where
-    before : r < s → r ≡ s
-    before l = absurd (not-both (P r) (p .holds) (e r (p .low) ∙ q .first r (p .low) l))
-
-    after : s < r → r ≡ s
-    after l = absurd (not-both (Q s) (q .holds) (sym (e s (q .low)) ∙ p .first s (q .low) l))
 
 module _ (b : Board) (a : Activity) (ready : ℕ) (q : ResourceRequirement) where
   -- the diaries of a resource and its companions keep the rules
@@ -71,22 +53,19 @@ module _ (b : Board) (a : Activity) (ready : ℕ) (q : ResourceRequirement) wher
       never : (x : ℕ) → all x ≡ false → leb (arrival b a ready r) x && all x ≡ false
       never x e = no-way (leb (arrival b a ready r) x && all x) (λ g. not-both (all x) (and-split (leb (arrival b a ready r) x) (all x) g .1) e)
 
-      here : (f : Found) → earliestOf (a .resumable) span (withCompanions b r (q .usage)) from ≡ f → Sound (withCompanions b r (q .usage))
-          → Answers (λ x. leb (arrival b a ready r) x && all x) t f
-      here nothing e v = λ x h. ⊎-elim (λ (l : x < from). late x l h) (λ (l : from ≤ x). never x (together-none (a .resumable) span (withCompanions b r (q .usage)) v from e x l)) (lt-or-ge x from)
-      here (at s) e v =
-          let w = together-found (a .resumable) span (withCompanions b r (q .usage)) v from s e in
-          record {
-            low = omega (arith, w .low);
-            holds = and-join (leb (arrival b a ready r) s) (all s) (le-leb (arrival b a ready r) s (omega (arith, w .low))) (w .holds);
-            first = λ x h l. ⊎-elim (λ (m : x < from). late x m h) (λ (m : from ≤ x). never x (w .first x m l)) (lt-or-ge x from);
-          }
+      here : (f : Found) → Answers all from f → Answers (λ x. leb (arrival b a ready r) x && all x) t f
+      here nothing w = λ x h. ⊎-elim (λ (l : x < from). late x l h) (λ (l : from ≤ x). never x (w x l)) (lt-or-ge x from)
+      here (at s) w = record {
+        low = omega (arith, w .low);
+        holds = and-join (leb (arrival b a ready r) s) (all s) (le-leb (arrival b a ready r) s (omega (arith, w .low))) (w .holds);
+        first = λ x h l. ⊎-elim (λ (m : x < from). late x m h) (λ (m : from ≤ x). never x (w .first x m l)) (lt-or-ge x from);
+      }
 
       go : (p c : Bool) → every (onBoard b) (companionsOf r) ≡ c
           → Answers (λ x. p && (c && (leb (arrival b a ready r) x && all x))) t (cond p (cond c (earliestOf (a .resumable) span (withCompanions b r (q .usage)) from) nothing) nothing)
       go false c e = λ x h. refl
       go true false e = λ x h. refl
-      go true true e = here (earliestOf (a .resumable) span (withCompanions b r (q .usage)) from) refl (k e)
+      go true true e = here (earliestOf (a .resumable) span (withCompanions b r (q .usage)) from) (together-answers (a .resumable) span (withCompanions b r (q .usage)) from (k e))
 
   pub told : (r : Resource) (s : Bool) (f : Found) → cond s (answer (durationAlone a r .process) r f) [] ≡ answer (durationAlone a r .process) r (cond s f nothing)
   unfolding answer

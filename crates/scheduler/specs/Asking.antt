@@ -15,16 +15,15 @@ use Rattle.calendar.specs.Basics.{no-way, not-both}
 use Rattle.calendar.specs.Search.{Found, nothing, at}
 use Rattle.timeline.specs.Valid.{valid}
 use Rattle.timeline.proofs.Searching.{Sought, sought-start}
-use Rattle.timeline.proofs.Meaning.{Earliest}
+use Rattle.calendar.specs.Searching.{Earliest, Answers}
 use Rattle.scheduler.specs.Alone.{Share, canStart, allStart, earliestOf}
 use Rattle.scheduler.specs.Shares.{startOn, noShare}
-use Rattle.scheduler.specs.Answering.{Answers}
 use Rattle.scheduler.specs.Arrays.{each-at}
 use Rattle.scheduler.specs.Fitting.{among}
-use Rattle.scheduler.specs.Together.{Sound}
+use Rattle.scheduler.specs.Together.{Sound, together-is}
 use Rattle.scheduler.specs.Tests.{or-in-left, or-in-right}
 use Rattle.scheduler.specs.Events.{events, eventsOf, among-append, above, above-le, above-falls}
-use Rattle.scheduler.specs.Latest.{start-answers, start-listed, start-range, sought-past, sought-never, together-is}
+use Rattle.scheduler.specs.Latest.{start-answers, start-listed, start-range, sought-past, sought-never}
 
 -- the diary to ask after the i-th: the next, and the first again where the start has moved on past those in front
 unfoldable pub nextAsked : ℕ → Bool → ℕ

@@ -12,7 +12,7 @@ use borrow.Author.Tests.{eqb-true, eqb-false, leb-true, le-leb}
 use Rattle.calendar.specs.Basics.{and-split, and-join, no-way, lt-or-ge}
 use Rattle.calendar.specs.Search.{Found, nothing, at, greatestOf}
 use Rattle.timeline.proofs.Searching.{Sought, sought-start}
-use Rattle.timeline.proofs.Meaning.{Earliest}
+use Rattle.calendar.specs.Searching.{Earliest, Answers}
 use Rattle.activity.specs.declared.ResourceRequirement.{ResourceRequirement}
 use Rattle.activity.specs.declared.Activity.{Activity}
 use Rattle.activity.specs.Serving.{serves}
@@ -28,7 +28,7 @@ use Rattle.scheduler.specs.Plain.{startsThere, enough, heldAt}
 use Rattle.scheduler.specs.Lists.{Each, each-end, each-on, each-append}
 use Rattle.scheduler.specs.Together.{all-back}
 use Rattle.scheduler.specs.Ranking.{each-sort}
-use Rattle.scheduler.specs.Answering.{Answers, Kept, served, alone-answers, told}
+use Rattle.scheduler.specs.Answering.{Kept, served, alone-answers, told}
 use Rattle.scheduler.specs.Rounds.{heldIn, not-few, hold-parts, each-hold, greatest-le, starts-le, greatest-ge, round-at, round-upto, round-from, round-stays, round-some}
 use Rattle.scheduler.specs.Events.{eventsOf, calm-else, least-listed, above, above-falls}
 use Rattle.scheduler.specs.Tests.{or-left, or-right}

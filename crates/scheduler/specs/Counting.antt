@@ -29,13 +29,13 @@ use Rattle.scheduler.specs.Fitting.{among, sharesOf, suits, fitting}
 use Rattle.scheduler.specs.Plain.{enough, heldAt}
 use Rattle.scheduler.specs.Tests.{or-in-left, or-in-right, or-cases}
 use Rattle.scheduler.specs.Lists.{Each, each-end, each-on}
-use Rattle.scheduler.specs.Together.{Sound}
-use Rattle.scheduler.specs.Answering.{Answers, answers-same}
+use Rattle.scheduler.specs.Together.{Sound, together-answers}
+use Rattle.calendar.specs.Searching.{Answers, answers-same}
 use Rattle.scheduler.specs.Events.{events, eventsOf, among-append, above, above-falls, above-length}
 use Rattle.scheduler.specs.Chosen.{Chooses, round-falls, rounds-mean}
 use Rattle.scheduler.specs.Ruled.{eventsOn, on-event, all-kept, all-listed, points, points-length, events-board, entries-valid}
 use Rattle.scheduler.specs.Closing.{fitting-answers}
-use Rattle.scheduler.specs.Latest.{latestOf, Step, Latest, latest-says, sought-past, sought-never, together-answers, events-count}
+use Rattle.scheduler.specs.Latest.{latestOf, Step, Latest, latest-says, sought-past, sought-never, events-count}
 use Rattle.scheduler.specs.Owning.{ownShare, own-valid, suitsOn, suits-on}
 
 -- from an instant to the latest of the least starts from it, until it stays; at most n times

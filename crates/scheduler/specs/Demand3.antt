@@ -10,9 +10,8 @@ use lib.Seq.{take-at}
 use lib.Dec.{ltb}
 use Rattle.calendar.specs.Basics.{not-both, lt-or-ge, unrefused}
 use Rattle.calendar.specs.Search.{Found, nothing, at, when}
-use Rattle.calendar.specs.Meaning.{not-at}
 use Rattle.calendar.specs.Valid as calendar
-use Rattle.timeline.proofs.Meaning.{Earliest}
+use Rattle.calendar.specs.Searching.{Earliest, not-at}
 use Rattle.activity.specs.declared.ResourceRequirement.{ResourceRequirement}
 use Rattle.activity.specs.declared.Activity.{Activity}
 use Rattle.activity.specs.Ready.{readyOf}

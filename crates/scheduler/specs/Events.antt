@@ -11,7 +11,7 @@ use borrow.Author.Tests.{eqb-true, eqb-false, ltb-true, ltb-false}
 use Rattle.calendar.specs.Basics.{not-both, lt-or-ge}
 use Rattle.timeline.specs.declared.ResourceTimeline.{ResourceTimeline}
 use Rattle.timeline.proofs.Stepping.{Still}
-use Rattle.timeline.proofs.Meaning.{Earliest}
+use Rattle.calendar.specs.Searching.{Earliest}
 use Rattle.scheduler.specs.Alone.{Share}
 use Rattle.scheduler.specs.Fitting.{among}
 use Rattle.scheduler.specs.Lists.{each-end, each-on}

@@ -10,20 +10,19 @@ use lib.ListN.{length, length-append}
 use Rattle.calendar.specs.Every.{every}
 use Rattle.calendar.specs.Basics.{and-split, and-join, no-way, not-both, lt-or-ge}
 use Rattle.calendar.specs.Search.{Found, nothing, at}
-use Rattle.calendar.specs.Meaning.{greatest-most}
 use Rattle.timeline.specs.Valid.{valid}
-use Rattle.timeline.specs.Earliest.{fitsAt, startsAt, lastEvent, earliestFit, earliestResumable}
+use Rattle.timeline.specs.Earliest.{lastEvent}
 use Rattle.timeline.proofs.Rules.{rules}
 use Rattle.timeline.proofs.Searching.{Sought, found-within}
 use Rattle.timeline.proofs.Stepping.{last-still, last-range}
-use Rattle.timeline.proofs.Meaning.{Earliest, fit-means, none-means, resumable-means, no-start-means}
-use Rattle.scheduler.specs.Alone.{Share, canStart, allStart, lastOf, earliestOf}
+use Rattle.calendar.specs.Searching.{Earliest, Answers, greatest-most}
+use Rattle.timeline.proofs.Meaning.{fit-means, resumable-means}
+use Rattle.scheduler.specs.Alone.{Share, canStart, allStart, lastOf}
 use Rattle.scheduler.specs.Fitting.{among}
 use Rattle.scheduler.specs.Shares.{startOn, noShare}
 use Rattle.scheduler.specs.Lists.{each-end, each-on}
 use Rattle.scheduler.specs.Arrays.{each-at}
-use Rattle.scheduler.specs.Together.{Sound, can-back, together-found, together-none}
-use Rattle.scheduler.specs.Answering.{Answers, answers-same}
+use Rattle.scheduler.specs.Together.{Sound, can-back}
 use Rattle.scheduler.specs.Events.{events, eventsOf, among-append, still-else, least-listed}
 use Rattle.scheduler.specs.Ruled.{events-length}
 use Rattle.scheduler.specs.Tests.{or-in-left, or-in-right}
@@ -31,22 +30,14 @@ use Rattle.scheduler.specs.Tests.{or-in-left, or-in-right}
 -- the least start on one diary
 pub start-answers : (resumable : Bool) (span : ℕ) (x : Share) (t : ℕ) → valid (x .timeline) ≡ true → Answers (canStart resumable span x) t (startOn resumable span x t)
 unfolding startOn canStart
-start-answers true span x t v = go (earliestResumable (x .timeline) t span (x .units)) refl
-  where
-    go : (f : Found) → earliestResumable (x .timeline) t span (x .units) ≡ f → Answers (startsAt (x .timeline) span (x .units)) t f
-    go nothing e = no-start-means (x .timeline) v t span (x .units) e
-    go (at s) e = resumable-means (x .timeline) v t span (x .units) s e
-start-answers false span x t v = go (earliestFit (x .timeline) t span (x .units)) refl
-  where
-    go : (f : Found) → earliestFit (x .timeline) t span (x .units) ≡ f → Answers (fitsAt (x .timeline) span (x .units)) t f
-    go nothing e = none-means (x .timeline) v t span (x .units) e
-    go (at s) e = fit-means (x .timeline) v t span (x .units) s e
+start-answers true span x t v = resumable-means (x .timeline) v t span (x .units)
+start-answers false span x t v = fit-means (x .timeline) v t span (x .units)
 
 -- a least start lies at the instant asked from, or by 2^42
 pub start-range : (resumable : Bool) (span : ℕ) (x : Share) (t s : ℕ) → valid (x .timeline) ≡ true → Earliest (canStart resumable span x) t s → s ≤ max t (2 ^ 42)
 start-range resumable span x t s v w =
     let r = rules (x .timeline) v in
-    let l = found-within (canStart resumable span x) t (lastEvent (x .timeline)) (λ y m. can-back resumable span x y (last-still (x .timeline) r y m)) s (record { low = w .low; none = w .first }) (w .holds) in
+    let l = found-within (canStart resumable span x) t (lastEvent (x .timeline)) (λ y m. can-back resumable span x y (last-still (x .timeline) r y m)) s w in
     omega (arith, last-range (x .timeline) r)
 
 -- the latest of the least starts from t on; nothing where one has none
@@ -122,18 +113,6 @@ sought-past P from t u s l f = record { low = omega (arith, s .low); none = λ y
 
 pub sought-never : (P : ℕ → Bool) (from t : ℕ) → Sought P from t → ((y : ℕ) → t ≤ y → P y ≡ false) → (y : ℕ) → from ≤ y → P y ≡ false
 sought-never P from t s f y a = ⊎-elim (λ (m : y < t). s .none y a m) (λ (m : t ≤ y). f y m) (lt-or-ge y t)
-
--- the definition's answer
-pub together-answers : (resumable : Bool) (span : ℕ) (xs : List Share) (from : ℕ) → Sound xs → Answers (allStart resumable span xs) from (earliestOf resumable span xs from)
-together-answers resumable span xs from v = go (earliestOf resumable span xs from) refl
-  where
-    go : (f : Found) → earliestOf resumable span xs from ≡ f → Answers (allStart resumable span xs) from f
-    go nothing e = together-none resumable span xs v from e
-    go (at s) e = together-found resumable span xs v from s e
-
--- another answer is the same
-pub together-is : (resumable : Bool) (span : ℕ) (xs : List Share) (from : ℕ) (f : Found) → Sound xs → Answers (allStart resumable span xs) from f → f ≡ earliestOf resumable span xs from
-together-is resumable span xs from f v w = answers-same (allStart resumable span xs) (allStart resumable span xs) from f (earliestOf resumable span xs from) (λ x l. refl) w (together-answers resumable span xs from v)
 
 -- on diaries that keep the rules nothing changes after 2^42
 pub last-small : (xs : List Share) → Sound xs → lastOf xs ≤ 2 ^ 42

@@ -11,8 +11,9 @@ use Rattle.calendar.specs.Basics.{not-both}
 use Rattle.calendar.specs.Search.{Found, nothing, at}
 use Rattle.calendar.specs.Valid as calendar
 use Rattle.calendar.specs.Work.{jointEnd}
-use Rattle.calendar.specs.Meaning.{fits-is, least-is}
-use Rattle.timeline.proofs.Meaning.{Earliest, straight}
+use Rattle.calendar.specs.Meaning.{fits-is}
+use Rattle.calendar.specs.Searching.{Earliest, Answers, least-is}
+use Rattle.timeline.proofs.Meaning.{straight}
 use Rattle.activity.specs.declared.ResourceRequirement.{ResourceRequirement}
 use Rattle.activity.specs.declared.Activity.{Activity}
 use Rattle.calendar.specs.Every.{every}
@@ -28,7 +29,6 @@ use Rattle.scheduler.specs.Placing.{Reply, placed, chosenNone, none, ref
 use Rattle.scheduler.specs.Plain.{enough, heldAt}
 use Rattle.scheduler.specs.Lists.{each-end}
 use Rattle.scheduler.specs.Together.{Sound}
-use Rattle.scheduler.specs.Answering.{Answers}
 use Rattle.scheduler.specs.Events.{above-length}
 use Rattle.scheduler.specs.Chosen.{Chooses, rounds-mean}
 use Rattle.scheduler.specs.Ruled.{all-kept, all-listed, points, points-length}
@@ -140,7 +140,7 @@ module _ (a : Activity) (open-ever : a .calendar .windows .len ≡ 0) (never-shu
   plainly : (resumable : Bool) → started resumable [] a span ready [] (fitting resumable [] (a .calendar) span ready) ≡ placed ready ready (ready + span) []
   unfolding started ended fitting
   plainly resumable =
-      ap (started resumable [] a span ready []) (least-is (suits resumable [] (a .calendar) span) ready _ ready (record { low = omega arith; high = omega arith; holds = at-once resumable; first = λ x l m. absurd (omega arith) }))
+      ap (started resumable [] a span ready []) (least-is (suits resumable [] (a .calendar) span) ready _ ready (record { low = omega arith; holds = at-once resumable; first = λ x l m. absurd (omega arith) }) (omega arith))
       ∙ ap (ended ready ready []) (ends-then resumable)
 
 -- without a calendar it starts at ready

@@ -11,7 +11,10 @@ use Rattle.calendar.specs.Search.{Found, nothing, at, leastFrom, greatestOf}
 use Rattle.calendar.specs.Valid as calendar
 use Rattle.calendar.specs.Fits.{fits}
 use Rattle.calendar.specs.Work.{working, joint, lastChange, jointEnd}
-use Rattle.calendar.specs.Meaning.{working-back, joint-changeless, joint-end-found, work-end-back, least-same}
+use Rattle.calendar.specs.Searching.{least-same}
+use Rattle.calendar.specs.WorkEnds.{joint-changeless, work-end-back}
+use Rattle.calendar.specs.StepsBack.{working-back}
+use Rattle.calendar.specs.Meaning.{joint-end-found}
 use Rattle.timeline.specs.Bookings.{bookingsTo, latestEnd}
 use Rattle.timeline.specs.Valid.{valid}
 use Rattle.timeline.specs.Diary.{diary}

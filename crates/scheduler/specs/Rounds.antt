@@ -10,7 +10,7 @@ use lib.Dec.{leb, ltb}
 use borrow.Author.Tests.{leb-true, le-leb, ltb-false, le-ltb}
 use Rattle.calendar.specs.Search.{greatestOf}
 use Rattle.calendar.specs.Basics.{and-split, and-join, not-both}
-use Rattle.calendar.specs.Meaning.{greatest-each, greatest-most}
+use Rattle.calendar.specs.Searching.{greatest-each, greatest-most}
 use Rattle.activity.specs.declared.ResourceRequirement.{ResourceRequirement}
 use Rattle.activity.specs.declared.Activity.{Activity}
 use Rattle.board.specs.declared.Board.{Board}

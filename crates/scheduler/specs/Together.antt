@@ -2,17 +2,15 @@
 use mathlib.Core.Path.{_≡_, refl}
 use mathlib.Core.Bool.{Bool, true, false}
 use mathlib.Core.List.{List, [], _∷_}
-use Prim.Native.Nat.{ℕ, suc, _-_, _≤_}
+use Prim.Native.Nat.{ℕ, suc, _≤_}
 use native.Mathlib.Omega.{arith}
 use Rattle.calendar.specs.Every.{every}
 use Rattle.calendar.specs.Basics.{and-split, and-join}
-use Rattle.calendar.specs.Search.{nothing, at, greatestOf}
-use Rattle.calendar.specs.Meaning.{least-found}
+use Rattle.calendar.specs.Search.{Found, greatestOf}
 use Rattle.timeline.specs.Valid.{valid}
 use Rattle.timeline.proofs.Rules.{rules}
-use Rattle.timeline.proofs.Searching.{none-ever}
 use Rattle.timeline.proofs.Stepping.{Still, fits-at-back, starts-at-back, last-still}
-use Rattle.timeline.proofs.Meaning.{Earliest}
+use Rattle.calendar.specs.Searching.{Answers, answers-same, least-answers}
 use Rattle.scheduler.specs.Lists.{Each, each-end, each-on}
 use Rattle.scheduler.specs.Alone.{Share, canStart, allStart, lastOf, earliestOf}
 
@@ -41,12 +39,11 @@ unfolding lastOf greatestOf
 last-calm [] each-end y l = each-end
 last-calm (x ∷ xs) (each-on v s) y l = each-on (last-still (x .timeline) (rules (x .timeline) v) y (omega arith)) (last-calm xs s y (omega arith))
 
-module _ (resumable : Bool) (span : ℕ) (xs : List Share) (v : Sound xs) (from : ℕ) where
-  -- the least start on all of them, and nothing only if there is none at all
-  pub together-found : (s : ℕ) → earliestOf resumable span xs from ≡ at s → Earliest (allStart resumable span xs) from s
-  unfolding earliestOf
-  together-found s e = let r = least-found (allStart resumable span xs) from (suc (lastOf xs - from)) s e in record { low = r .low; holds = r .holds; first = r .first }
+-- the least start on all of them, and nothing only if there is none at all
+pub together-answers : (resumable : Bool) (span : ℕ) (xs : List Share) (from : ℕ) → Sound xs → Answers (allStart resumable span xs) from (earliestOf resumable span xs from)
+unfolding earliestOf
+together-answers resumable span xs from v = least-answers (allStart resumable span xs) from (lastOf xs) (λ y l. all-back resumable span xs y (last-calm xs v y l))
 
-  pub together-none : earliestOf resumable span xs from ≡ nothing → (x : ℕ) → from ≤ x → allStart resumable span xs x ≡ false
-  unfolding earliestOf
-  together-none e = none-ever (allStart resumable span xs) from (lastOf xs) (λ y l. all-back resumable span xs y (last-calm xs v y l)) e
+-- another answer is the same
+pub together-is : (resumable : Bool) (span : ℕ) (xs : List Share) (from : ℕ) (f : Found) → Sound xs → Answers (allStart resumable span xs) from f → f ≡ earliestOf resumable span xs from
+together-is resumable span xs from f v w = answers-same (allStart resumable span xs) (allStart resumable span xs) from f (earliestOf resumable span xs from) (λ x l. refl) w (together-answers resumable span xs from v)

@@ -10,12 +10,12 @@ use lib.ListN.{getD}
 use lib.Dec.{ltb}
 use borrow.Author.Tests.{lt-ltb, ltb-true}
 use Rattle.calendar.specs.Search.{greatestOf}
-use Rattle.calendar.specs.Meaning.{greatest-snoc}
+use Rattle.calendar.specs.Searching.{greatest-snoc}
 use Rattle.calendar.specs.Basics.{no-way, and-split}
-use Rattle.work_ends.specs.Layout.{Rising, Before}
+use Rattle.calendar.specs.Cells.{Rising, before}
+use Rattle.work_ends.specs.Layout.{Before}
 use Rattle.timeline.specs.declared.ResourceTimeline.{ResourceTimeline}
 use Rattle.timeline.specs.Bookings.{Booking, bookingAt, bookingsTo, bookings, latestEnd}
-use Rattle.timeline.specs.Valid.{before}
 use Rattle.timeline.specs.Free.{overlaps, onAt, tally}
 use Rattle.timeline.specs.Steps.{Columns, From}
 use Rattle.timeline.proofs.Rules.{Rules}

@@ -3,15 +3,16 @@ use mathlib.Core.Path.{_≡_, refl, ap, _∙_, fun-ext}
 use mathlib.Core.Bool.{Bool, true, false, cond}
 use mathlib.Core.List.{List, [], _∷_}
 use mathlib.Core.Logic.{inl}
-use Prim.Native.Nat.{ℕ, suc, _+_, _-_, _≤_, _<_, max}
+use Prim.Native.Nat.{ℕ, suc, _+_, _-_, _≤_, max}
 use native.Mathlib.Omega.{arith}
 use borrow.Author.Tests.{eqb-true, eq-eqb}
 use Rattle.calendar.specs.declared.Calendar.{Calendar}
 use Rattle.calendar.specs.Basics.{and-split, no-way, not-both}
-use Rattle.calendar.specs.Search.{nothing, at, leastFrom, greatestOf}
+use Rattle.calendar.specs.Search.{at, leastFrom, greatestOf}
 use Rattle.calendar.specs.Fits.{fits}
 use Rattle.calendar.specs.Work.{joint, workEnd, lastChange, jointEnd}
-use Rattle.calendar.specs.Meaning.{least-found, fits-is, working-is}
+use Rattle.calendar.specs.Searching.{Answers, least-answers}
+use Rattle.calendar.specs.Meaning.{fits-is, working-is}
 use Rattle.calendar.proofs.Running.{run-done}
 use Rattle.timeline.specs.declared.ResourceTimeline.{ResourceTimeline}
 use Rattle.timeline.specs.Bookings.{Booking, latestEnd, same, times, Within}
@@ -20,33 +21,18 @@ use Rattle.timeline.specs.Free.{onAt, tally, load, free}
 use Rattle.timeline.specs.Earliest.{fitsAt, freeTo, startsAt, lastEvent, earliestFit, earliestResumable}
 use Rattle.timeline.proofs.Rules.{rules}
 use Rattle.timeline.proofs.Loading.{free-facts, free-yes}
-use Rattle.timeline.proofs.Searching.{none-ever}
 use Rattle.timeline.proofs.Stepping.{fits-at-back, starts-at-back, last-still, joint-one}
-
--- s is the least instant at or after `from` at which P holds
-pub record Earliest (P : ℕ → Bool) (from s : ℕ) : Type 0 where
-  pub low : from ≤ s
-  pub holds : P s ≡ true
-  pub first : (x : ℕ) → from ≤ x → x < s → P x ≡ false
 
 module _ (t : ResourceTimeline) (v : valid t ≡ true) (from span u : ℕ) where
   -- `earliest_fit` answers with the least start at which the span fits, and with nothing only if it fits at no instant from `from` on
-  pub fit-means : (s : ℕ) → earliestFit t from span u ≡ at s → Earliest (fitsAt t span u) from s
+  pub fit-means : Answers (fitsAt t span u) from (earliestFit t from span u)
   unfolding earliestFit
-  fit-means s e = let r = least-found (fitsAt t span u) from (suc (lastEvent t - from)) s e in record { low = r .low; holds = r .holds; first = r .first }
-
-  pub none-means : earliestFit t from span u ≡ nothing → (x : ℕ) → from ≤ x → fitsAt t span u x ≡ false
-  unfolding earliestFit
-  none-means e = none-ever (fitsAt t span u) from (lastEvent t) (λ y l. fits-at-back t span u y (last-still t (rules t v) y l)) e
+  fit-means = least-answers (fitsAt t span u) from (lastEvent t) (λ y l. fits-at-back t span u y (last-still t (rules t v) y l))
 
   -- and `earliest_resumable` likewise with the least start at which the work can start
-  pub resumable-means : (s : ℕ) → earliestResumable t from span u ≡ at s → Earliest (startsAt t span u) from s
+  pub resumable-means : Answers (startsAt t span u) from (earliestResumable t from span u)
   unfolding earliestResumable
-  resumable-means s e = let r = least-found (startsAt t span u) from (suc (lastEvent t - from)) s e in record { low = r .low; holds = r .holds; first = r .first }
-
-  pub no-start-means : earliestResumable t from span u ≡ nothing → (x : ℕ) → from ≤ x → startsAt t span u x ≡ false
-  unfolding earliestResumable
-  no-start-means e = none-ever (startsAt t span u) from (lastEvent t) (λ y l. starts-at-back t span u y (last-still t (rules t v) y l)) e
+  resumable-means = least-answers (startsAt t span u) from (lastEvent t) (λ y l. starts-at-back t span u y (last-still t (rules t v) y l))
 
 -- without a calendar work runs straight through ..
 pub straight : (c : Calendar) (s w : ℕ) → c .windows .len ≡ 0 → c .blocks .len ≡ 0 → jointEnd (c ∷ []) s w ≡ at (s + w)

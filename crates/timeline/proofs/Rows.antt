@@ -13,7 +13,7 @@ use Rattle.calendar.specs.declared.Calendar.{Calendar}
 use Rattle.calendar.specs.Basics.{lt-or-ge}
 use Rattle.timeline.specs.declared.ResourceTimeline.{ResourceTimeline}
 use Rattle.timeline.specs.Bookings.{Booking, bookingAt, bookingsTo, bookings, total}
-use Rattle.timeline.specs.Valid.{before}
+use Rattle.calendar.specs.Cells.{before}
 use Rattle.timeline.specs.Diary.{insertBooking, cells, latestEnds, diary}
 use Rattle.work_ends.specs.Layout.{Before}
 use Rattle.columns.specs.Steps.{Opened, Latest}

@@ -1,9 +1,7 @@
 -- The rules of a diary as facts, from the test and back.
 use mathlib.Core.Path.{_≡_}
 use mathlib.Core.Bool.{true}
-use mathlib.Core.List.{List}
-use Prim.Native.Nat.{ℕ, _+_, _-_, _^_, _≤_, _<_, max}
-use native.Mathlib.Numerals.{add-one}
+use Prim.Native.Nat.{ℕ, _-_, _^_, _≤_, _<_, max}
 use native.Mathlib.Omega.{arith}
 use lib.ListN.{getD}
 use borrow.Author.Tests.{leb-true, ltb-true, eqb-true, le-leb, lt-ltb, eq-eqb}
@@ -14,12 +12,9 @@ use Rattle.calendar.specs.Basics.{and-split}
 use Rattle.calendar.specs.Every.{from-at, from-all}
 use Rattle.timeline.specs.declared.ResourceTimeline.{ResourceTimeline}
 use Rattle.timeline.specs.Bookings.{bookings, total}
-use Rattle.timeline.specs.Valid.{before, cellRight, cellEmpty, filledAt, emptyAt, filledFrom, emptyFrom, valid}
+use Rattle.calendar.specs.Cells.{before}
+use Rattle.timeline.specs.Valid.{cellRight, cellEmpty, filledAt, emptyAt, filledFrom, emptyFrom, valid}
 use Rattle.timeline.specs.Book.{withCalendar, calendarReply}
-
-pub before-step : (xs : List ℕ) (i : ℕ) → getD xs i 0 ≡ before xs (i + 1)
-unfolding before
-before-step xs i = rw (add-one i)
 
 -- a filled cell
 pub record CellFacts (s e u l ps pl : ℕ) : Type 0 where

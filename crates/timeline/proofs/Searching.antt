@@ -6,7 +6,7 @@ use Prim.Native.Nat.{ℕ, zero, suc, _+_, _-_, _≤_, _<_, max}
 use native.Mathlib.Omega.{arith}
 use Rattle.calendar.specs.Basics.{no-way, not-both, lt-or-ge}
 use Rattle.calendar.specs.Search.{Found, nothing, at, leastFrom}
-use Rattle.calendar.specs.Meaning.{least-found, least-none, least-is}
+use Rattle.calendar.specs.Searching.{Earliest, least-found, answer-is}
 
 -- no start up to the next candidate
 pub none-until : (P : ℕ → Bool) (x r : ℕ) → P x ≡ false → ((y : ℕ) → x ≤ y → suc y < r → P (suc y) ≡ true → P y ≡ true) → (j : ℕ) → x + j < r → P (x + j) ≡ false
@@ -38,44 +38,13 @@ sought-on P from x r s h l back = record {
       (lt-or-ge y x);
 }
 
+-- past the last event what holds later holds here too, so a start that is found is what the definition finds, and lies within what it tries
 module _ (P : ℕ → Bool) (from last : ℕ) (back : (y : ℕ) → last ≤ y → P (suc y) ≡ true → P y ≡ true) where
-  -- past the last event what holds later holds here too
-  down : (n m : ℕ) → last ≤ m → P (m + n) ≡ true → P m ≡ true
-  down zero m l h =
-      let e : m + 0 ≡ m = omega arith in
-      rw e at h
-  down (suc n) m l h =
-      let e : m + suc n ≡ suc (m + n) = omega arith in
-      down n m l (back (m + n) (omega arith) (rw e at h))
-
-  -- so a start that is found lies within what the definition tries
-  pub found-within : (x : ℕ) → Sought P from x → P x ≡ true → x ≤ max from last
-  found-within x s h =
-      ⊎-elim
-      (λ (l : max from last < x).
-      let m = max from last in
-      let e : m + (x - m) ≡ x = omega arith in
-      absurd (not-both (P m) (down (x - m) m (omega arith) (rw e h)) (s .none m (omega arith) l)))
-      (λ (l : x ≤ max from last). l)
-      (lt-or-ge (max from last) x)
-
   pub sought-found : (x : ℕ) → Sought P from x → P x ≡ true → leastFrom P from (suc (last - from)) ≡ at x
-  sought-found x s h =
-      let w = found-within x s h in
-      least-is P from (suc (last - from)) x (record { low = s .low; high = omega arith; holds = h; first = s .none })
+  sought-found x s h = answer-is P from last back (at x) (record { low = s .low; holds = h; first = s .none })
 
-  -- and where nothing is found there is nothing at all, however far one looks
-  pub none-ever : leastFrom P from (suc (last - from)) ≡ nothing → (x : ℕ) → from ≤ x → P x ≡ false
-  none-ever e x h = no-way _ (λ g. ⊎-elim (λ (l : max from last < x). far g l) (λ (l : x ≤ max from last). near g l) (lt-or-ge (max from last) x))
-    where
-      near : P x ≡ true → x ≤ max from last → ⊥
-      near g l = not-both (P x) g (least-none P from (suc (last - from)) e x h (omega arith))
-
-      far : P x ≡ true → max from last < x → ⊥
-      far g l =
-          let m = max from last in
-          let q : m + (x - m) ≡ x = omega arith in
-          not-both (P m) (down (x - m) m (omega arith) (rw q g)) (least-none P from (suc (last - from)) e m (omega arith) (omega arith))
+  pub found-within : (x : ℕ) → Earliest P from x → x ≤ max from last
+  found-within x w = omega (arith, least-found P from (suc (last - from)) x (answer-is P from last back (at x) w) .1)
 
 pub sought-none : (P : ℕ → Bool) (from last x : ℕ) → Sought P from x → max from last < x → leastFrom P from (suc (last - from)) ≡ nothing
 sought-none P from last x s l = go (leastFrom P from (suc (last - from))) refl
@@ -84,4 +53,4 @@ sought-none P from last x s l = go (leastFrom P from (suc (last - from))) refl
     go nothing e = refl
     go (at y) e =
         let r = least-found P from (suc (last - from)) y e in
-        absurd (not-both (P y) (r .holds) (s .none y (r .low) (omega (arith, r .high))))
+        absurd (not-both (P y) (r .0 .holds) (s .none y (r .0 .low) (omega (arith, r .1))))

@@ -17,7 +17,10 @@ use Rattle.calendar.specs.Spanning.{spans-long, span-at}
 use Rattle.calendar.specs.Valid as calendar
 use Rattle.calendar.specs.Fits.{fits}
 use Rattle.calendar.specs.Work.{working, joint, jointEnd, latest, lastChange}
-use Rattle.calendar.specs.Meaning.{Quiet, fits-back, working-back, joint-changeless, joint-end-found, work-end-back, greatest-each, greatest-most}
+use Rattle.calendar.specs.Searching.{greatest-each, greatest-most}
+use Rattle.calendar.specs.WorkEnds.{joint-changeless, work-end-back}
+use Rattle.calendar.specs.StepsBack.{Quiet, fits-back, working-back}
+use Rattle.calendar.specs.Meaning.{joint-end-found}
 use Rattle.calendar.proofs.Rules.{filled, windows-right, blocks-right}
 use Rattle.timeline.specs.declared.ResourceTimeline.{ResourceTimeline}
 use Rattle.timeline.specs.Bookings.{Booking, bookings, latestEnd}

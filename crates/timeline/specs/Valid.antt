@@ -8,8 +8,8 @@ use Rattle.calendar.specs.Limits.{lastInstant, mostUnits, mostBookings}
 use Rattle.timeline.specs.declared.ResourceTimeline.{ResourceTimeline}
 use Rattle.timeline.specs.Bookings.{bookings, total}
 use Rattle.calendar.specs.Every.{everyFrom}
+use Rattle.calendar.specs.Cells.{before}
 use Rattle.calendar.specs.Valid as calendar
-unfoldable pub use Rattle.columns.specs.Steps.{before}
 
 -- a filled cell: start, end, units and latest end, after a cell with start ps and latest end pl
 unfoldable pub cellRight : ℕ → ℕ → ℕ → ℕ → ℕ → ℕ → Bool

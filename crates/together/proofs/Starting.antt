@@ -5,6 +5,7 @@ use mathlib.Core.List.{[], _∷_}
 use Prim.Native.Nat.{ℕ}
 use Rattle.calendar.specs.Basics.{not-both}
 use Rattle.calendar.specs.Search.{Found, nothing, at}
+use Rattle.calendar.specs.Searching.{Answers}
 use Rattle.calendar.specs.Work.{jointEnd}
 use Rattle.timeline.specs.declared.ResourceTimeline.{ResourceTimeline}
 use Rattle.timeline.specs.Valid.{valid}
@@ -18,19 +19,19 @@ startIn none = nothing
 startIn (refused n) = nothing
 
 module _ (t : ResourceTimeline) (v : valid t ≡ true) (from work u : ℕ) where
-  start-of : (f : Found) → earliestResumable t from work u ≡ f → startIn (resumed t work f) ≡ f
+  start-of : (f : Found) → Answers (startsAt t work u) from f → startIn (resumed t work f) ≡ f
   unfolding resumed ended startIn startsAt freeTo
-  start-of nothing e = refl
-  start-of (at s) e = go (jointEnd (t .calendar ∷ []) s work) refl
+  start-of nothing w = refl
+  start-of (at s) w = go (jointEnd (t .calendar ∷ []) s work) refl
     where
       go : (g : Found) → jointEnd (t .calendar ∷ []) s work ≡ g → startIn (ended s g) ≡ at s
-      go nothing h = absurd (not-both false (rw h at (resumable-means t v from work u s e .holds)) refl)
+      go nothing h = absurd (not-both false (rw h at (w .holds)) refl)
       go (at d) h = refl
 
   -- so a reply gives the start away
   pub resumable-start : (a : ℕ) (g : Found) → ended a g ≡ resumed t work (earliestResumable t from work u) → startIn (ended a g) ≡ earliestResumable t from work u
   unfolding startIn
-  resumable-start a g e = ap startIn e ∙ start-of (earliestResumable t from work u) refl
+  resumable-start a g e = ap startIn e ∙ start-of (earliestResumable t from work u) (resumable-means t v from work u)
 
 pub start-some : (a e : ℕ) → startIn (ended a (at e)) ≡ at a
 unfolding startIn ended

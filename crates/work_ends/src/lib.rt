@@ -4,7 +4,8 @@ ghost use mathlib.Core.Path.{_≡_};
 ghost use Prim.Native.Nat.{_^_, _≤_, _<_};
 ghost use lib.ListN.{length};
 ghost use Rattle.calendar.specs.Work.{workEnd};
-ghost use Rattle.work_ends.specs.Layout.{laid, lastCell, Edges, Rising, Before, foundOf};
+ghost use Rattle.calendar.specs.Cells.{before, Rising};
+ghost use Rattle.work_ends.specs.Layout.{laid, Edges, Before, foundOf};
 
 // How many of the first n cells, which rise, are before x.
 pub fn cells_before(xs: &[u64], n: usize, x: u64) -> usize
@@ -33,7 +34,7 @@ pub enum WorkEnd {
 pub fn work_end(edges: &[u64], len: usize, start: u64, work: u64) -> WorkEnd
     requires { ⌜ (len ≤ 4096) × (len ≤ length (now edges)) × (start < 2 ^ 63) × (work < 2 ^ 63) ⌝ }
     requires { ⌜ Edges (now edges) len ⌝ }
-    ensures { λ r. ⌜ foundOf r ≡ workEnd (lastCell (now (edges .entry)) len) (laid (now (edges .entry)) len) start work ⌝ }
+    ensures { λ r. ⌜ foundOf r ≡ workEnd (before (now (edges .entry)) len) (laid (now (edges .entry)) len) start work ⌝ }
 {
     let mut k = cells_before(edges, len, start + 1);
     if k % 2 == 0 {

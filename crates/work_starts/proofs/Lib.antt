@@ -1,3 +1,3 @@
--- Laws on plain values, for the proofs of this crate and of those above it: candidates tried in rising order, and the ends of a search.
-pub mod Finding
+-- Laws on plain values: candidates tried in rising order, for this crate and those above it, and the least start of resumable work.
 pub mod Trying
+pub mod Finding

@@ -5,7 +5,7 @@ use mathlib.Core.Path.{sym, ap, _∙_}
 use native.Mathlib.Omega.{arith}
 use Rattle.asks.specs.Answers.{replyOf}
 use Rattle.earliest.specs.Steps.{startOf}
-use Rattle.work_starts.proofs.Finding.{asked-15, asked-refused, asked-reply, lawful, fit-range, unbroken-at, unbroken-none}
+use Rattle.asks.proofs.Replies.{asked-15, asked-refused, asked-reply, lawful, fit-range, unbroken-at, unbroken-none}
 use Rattle.asks.proofs.earliest_fit.Statement.{statement}
 use Rattle.asks.proofs.earliest_fit.Tie as tie
 

@@ -4,7 +4,7 @@ use borrow.Author.Tests.{not-true, not-false}
 use mathlib.Core.Path.{sym, ap, _∙_}
 use Rattle.work_ends.specs.Layout.{foundOf}
 use Rattle.asks.specs.Answers.{replyOf}
-use Rattle.work_starts.proofs.Finding.{asked-15, asked-refused, asked-reply, lawful, ended-at, ended-none}
+use Rattle.asks.proofs.Replies.{asked-15, asked-refused, asked-reply, lawful, ended-at, ended-none}
 use Rattle.asks.proofs.earliest_resumable.Statement.{statement}
 use Rattle.asks.proofs.earliest_resumable.Tie as tie
 

@@ -7,7 +7,7 @@ use native.Mathlib.Omega.{arith}
 use lib.ListN.{length}
 use Rattle.timeline.proofs.Rules.{rules}
 use Rattle.timeline.proofs.Columns.{columns}
-use Rattle.columns.proofs.Shift.{before-pos, before-zero}
+use Rattle.calendar.specs.Cells.{before-pos, before-zero}
 use Rattle.earliest.proofs.Gaps.{Walk, walk-start, walk-step, walk-end, walk-stop, plain}
 use Rattle.earliest.proofs.earliest_gap.Statement.{statement}
 use Rattle.earliest.proofs.earliest_gap.Tie as tie

@@ -11,7 +11,8 @@ use Rattle.timeline.specs.Bookings.{bookingsTo}
 use Rattle.earliest.specs.Steps.{startOf}
 use Rattle.timeline.proofs.Rules.{rules}
 use Rattle.timeline.proofs.Columns.{columns}
-use Rattle.work_starts.proofs.Trying.{fitsOver, over-yes, over-shut, over-full, candidate-range, fit-listed, fit-unlisted}
+use Rattle.earliest.proofs.Fitting.{fitsOver, over-yes, over-shut, over-full, fit-listed, fit-unlisted}
+use Rattle.work_starts.proofs.Trying.{candidate-range}
 use Rattle.earliest.proofs.first_fit.Statement.{statement}
 use Rattle.earliest.proofs.first_fit.Tie as tie
 

@@ -5,7 +5,7 @@ use mathlib.Core.Path.{refl, sym, _∙_}
 use native.Mathlib.Omega.{arith}
 use Rattle.readings.specs.Reading.{readOf, read}
 use Rattle.timeline.proofs.Rules.{rules}
-use Rattle.columns.proofs.Shift.{before-pos, before-zero}
+use Rattle.calendar.specs.Cells.{before-pos, before-zero}
 use Rattle.timeline.proofs.Columns.{latest-last}
 use Rattle.readings.proofs.latest_end.Statement.{statement}
 use Rattle.readings.proofs.latest_end.Tie as tie

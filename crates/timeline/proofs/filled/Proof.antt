@@ -10,8 +10,9 @@ use native.Mathlib.Omega.{arith}
 use lib.ListN.{getD}
 use Rattle.calendar.specs.Every.{from-stop, from-more, from-done}
 use Rattle.timeline.specs.Bookings.{bookingAt, bookingsTo, bookings, total}
-use Rattle.timeline.specs.Valid.{before, filledFrom}
-use Rattle.timeline.proofs.Rules.{before-step, cell-facts, CellFacts}
+use Rattle.calendar.specs.Cells.{before, before-step}
+use Rattle.timeline.specs.Valid.{filledFrom}
+use Rattle.timeline.proofs.Rules.{cell-facts, CellFacts}
 use Rattle.timeline.proofs.Rows.{weight-le, total-snoc, rows-step}
 use Rattle.timeline.proofs.filled.Statement.{statement}
 use Rattle.timeline.proofs.filled.Tie as tie

@@ -11,7 +11,8 @@ use Rattle.work_ends.specs.Layout.{foundOf}
 use Rattle.timeline.specs.Bookings.{bookingsTo}
 use Rattle.timeline.proofs.Rules.{rules}
 use Rattle.timeline.proofs.Columns.{columns}
-use Rattle.work_starts.proofs.Trying.{freeUntil, endOver, until-end, until-none, candidate-range, start-listed, start-unlisted}
+use Rattle.work_starts.proofs.Finding.{freeUntil, endOver, until-end, until-none, start-listed, start-unlisted}
+use Rattle.work_starts.proofs.Trying.{candidate-range}
 use Rattle.work_starts.proofs.first_resumable.Statement.{statement}
 use Rattle.work_starts.proofs.first_resumable.Tie as tie
 
