@@ -229,7 +229,7 @@ module _ (k : ℕ) (bs : List ℕ) (i n m : ℕ) (l : i ≤ n) (e : m ≡ runLen
       (omega arith, omega (arith, t .0)))
       (λ (s : 44 ≤ k).
       let a : askLen k ≡ 0 = ask-none k (λ q. omega arith) (λ q. omega arith) (λ q. omega arith) (λ q. omega arith) in
-      let u : fixedLen k ≡ 0 = unknown k (λ q. omega arith) (λ q. omega arith) (λ q. omega arith) (λ q. omega arith) (λ q. omega arith) (λ q. omega arith) (λ q. omega arith) (λ q. omega arith) (λ q. omega arith) (λ q. omega arith) (λ q. omega arith) (λ q. omega arith) in
+      let u : fixedLen k ≡ 0 = unknown k (omega arith) (λ q. omega arith) (λ q. omega arith) (λ q. omega arith) (λ q. omega arith) (λ q. omega arith) (λ q. omega arith) (λ q. omega arith) (λ q. omega arith) in
       let f : m ≡ whole (n - i) (lenOf k bs i) = rw (eq-eqb (askLen k) 0 a) at e in
       let g : lenOf k bs i ≡ 0 = of-fixed k bs i (λ q. omega arith) ∙ u in
       let t = there (n - i) (lenOf k bs i) (λ w. z (f ∙ w)) in

@@ -2,7 +2,7 @@
 use mathlib.Core.Path.{_≡_, refl}
 use mathlib.Core.Bool.{false}
 use mathlib.Core.List.{List}
-use Prim.Native.Nat.{ℕ, zero, suc, _+_, _≤_, _<_}
+use Prim.Native.Nat.{ℕ, _+_, _≤_, _<_}
 use native.Mathlib.Omega.{arith}
 use lib.ListN.{take, drop}
 use lib.IntN.{ℤ, pos}
@@ -13,14 +13,14 @@ use Rattle.timeline.specs.Diary.{newDiary}
 use Rattle.slot_text.specs.Numbers.{little}
 use Rattle.slot_text.specs.Lines.{lineOf}
 use Rattle.records.specs.declared.Stepped as records
-use Rattle.records.specs.Records.{bodyLen, steppedOf, recordDoes}
+use Rattle.records.specs.Records.{steppedOf, recordDoes}
 use Rattle.board.specs.declared.Board.{Board}
 use Rattle.board.specs.declared.Entered.{Entered}
 use Rattle.board.specs.Enter.{addResourceReply, setMatrixReply, setTransitionReply, setInitialReply, setTransportReply}
 use Rattle.desk.specs.declared.Desk.{Desk}
 use Rattle.board_records.specs.declared.Stepped.{Stepped}
 use Rattle.board_records.specs.declared.order.Ordered.{Ordered}
-use Rattle.bodies.specs.Bodies.{byte, fixedLen}
+use Rattle.bodies.specs.Bodies.{byte}
 use Rattle.board_records.specs.Orders.{orderDoes, partReply}
 use Rattle.board_records.specs.Records.{signed, refusalOf, diaryTold, diaryDoes, added, addDoes, entryReply, entered, ordered, stepReply}
 
@@ -99,13 +99,3 @@ module _ (d : Desk) (k : ℕ) (bs : List ℕ) (i : ℕ) where
       let p : leb k 4 ≡ false = lt-leb k 4 (omega arith) in
       let q : eqb k 16 ≡ false = ne-eqb k 16 (λ z. omega arith) in
       rw (p, q, lt-leb k 20 l, ne-eqb k 21 h, ← f) refl
-
--- kinds 1 to 4 are those of `slot`
-pub as-in-slot : (k : ℕ) → 1 ≤ k → k ≤ 4 → (bodyLen k ≡ fixedLen k) × (fixedLen k ≤ 20)
-unfolding bodyLen fixedLen
-as-in-slot zero l h = absurd (omega arith)
-as-in-slot (suc zero) l h = (refl, omega arith)
-as-in-slot (suc (suc zero)) l h = (refl, omega arith)
-as-in-slot (suc (suc (suc zero))) l h = (refl, omega arith)
-as-in-slot (suc (suc (suc (suc zero)))) l h = (refl, omega arith)
-as-in-slot (suc (suc (suc (suc (suc k))))) l h = absurd (omega arith)

@@ -13,7 +13,7 @@ ghost use mathlib.Core.Path.{_≡_};
 ghost use Prim.Native.Nat.{_+_, _≤_, _<_};
 ghost use lib.ListN.{length};
 ghost use Rattle.slot_text.specs.Lines.{lineOf};
-ghost use Rattle.bodies.specs.Bodies.{fixedLen, lenOf};
+ghost use Rattle.bodies.specs.Bodies.{diaryLen, fixedLen, lenOf};
 ghost use Rattle.board_records.specs.Records.{signed as signedOf, refusalOf, diaryDoes, addDoes, entryReply, stepReply};
 
 // What a record does: what is in hand afterwards, and the refusal's number, 0 for none. 9 ends the stream.
@@ -45,7 +45,7 @@ fn refusal_of(line: Line) -> u8
 
 // Kinds 1 to 4: as in `slot`, on the diary in hand.
 fn on_diary(desk: Desk, kind: u8, bytes: &[u8], at: usize) -> Stepped
-    requires { ⌜ (1 ≤ kind) × (kind ≤ 4) × (at + fixedLen kind ≤ length (now bytes)) ⌝ }
+    requires { ⌜ (0 < diaryLen kind) × (at + diaryLen kind ≤ length (now bytes)) ⌝ }
     ensures { λ r. ⌜ r ≡ diaryDoes desk kind (now (bytes .entry)) at ⌝ }
 {
     let s = records::step(desk.timeline, kind, bytes, at);

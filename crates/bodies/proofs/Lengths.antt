@@ -5,37 +5,87 @@ use mathlib.Core.Logic.{⊎-elim}
 use Prim.Native.Nat.{ℕ, zero, suc, _+_, _-_, _≤_, _<_}
 use native.Mathlib.Nat.{eq-or-lt-of-le}
 use native.Mathlib.Omega.{arith}
-use borrow.Author.Tests.{lt-ltb, le-ltb, eq-eqb, ne-eqb}
+use mathlib.Core.Bool.{false}
+use lib.Dec.{eqb}
+use borrow.Author.Tests.{lt-ltb, le-ltb, le-leb, lt-leb, eq-eqb, ne-eqb}
 use Rattle.calendar.specs.Basics.{lt-or-ge}
-use Rattle.bodies.specs.Bodies.{byte, fixedLen, lenOf, whole, bodyLen}
+use Rattle.bodies.specs.Bodies.{byte, diaryLen, fixedLen, lenOf, whole, bodyLen}
+
+-- a diary's kinds
+pub kind-four : (k : ℕ) → k ≡ 1 → 4 ≡ diaryLen k
+unfolding diaryLen
+kind-four k e = sym (ap diaryLen e)
+
+pub kind-sixteen : (k : ℕ) → 2 ≤ k → k ≤ 3 → 16 ≡ diaryLen k
+unfolding diaryLen
+kind-sixteen k l h = ⊎-elim (λ (e : 2 ≡ k). ap diaryLen e) (λ (a : 2 < k). sym (ap diaryLen (let e : k ≡ 3 = omega arith in e))) (eq-or-lt-of-le l)
+
+pub kind-twenty : (k : ℕ) → 4 ≤ k → k ≤ 6 → 20 ≡ diaryLen k
+unfolding diaryLen
+kind-twenty k l h =
+    ⊎-elim (λ (e : 4 ≡ k). ap diaryLen e)
+    (λ (a : 4 < k). ⊎-elim (λ (e : 5 ≡ k). ap diaryLen e) (λ (b : 5 < k). sym (ap diaryLen (let e : k ≡ 6 = omega arith in e))) (eq-or-lt-of-le a))
+    (eq-or-lt-of-le l)
+
+pub kind-zero : (k : ℕ) → k < 1 → 0 ≡ diaryLen k
+unfolding diaryLen
+kind-zero zero h = refl
+kind-zero (suc k) h = absurd (omega arith)
+
+pub kind-more : (k : ℕ) → 6 < k → 0 ≡ diaryLen k
+unfolding diaryLen
+kind-more k h =
+    let a : eqb k 1 ≡ false = ne-eqb k 1 (λ e. omega arith) in
+    let b : eqb k 2 ≡ false = ne-eqb k 2 (λ e. omega arith) in
+    let d : eqb k 3 ≡ false = ne-eqb k 3 (λ e. omega arith) in
+    let f : eqb k 4 ≡ false = ne-eqb k 4 (λ e. omega arith) in
+    let g : eqb k 5 ≡ false = ne-eqb k 5 (λ e. omega arith) in
+    let i : eqb k 6 ≡ false = ne-eqb k 6 (λ e. omega arith) in
+    simp (a, b, d, f, g, i)
+
+-- a body that is known, and not of kinds 1 to 3, has 20 bytes; and not of kind 1, at least 16
+pub at-least-twenty : (k : ℕ) → (k ≡ 1 → ⊥) → (k ≡ 2 → ⊥) → (k ≡ 3 → ⊥) → 0 < diaryLen k → 20 ≤ diaryLen k
+at-least-twenty k h i j p =
+    ⊎-elim
+    (λ (a : k < 4). absurd (omega (arith, kind-zero k (omega (arith, h, i, j)))))
+    (λ (a : 4 ≤ k). ⊎-elim (λ (b : k < 7). omega (arith, kind-twenty k a (omega arith))) (λ (b : 7 ≤ k). absurd (omega (arith, kind-more k b))) (lt-or-ge k 7))
+    (lt-or-ge k 4)
+
+pub at-least-sixteen : (k : ℕ) → (k ≡ 1 → ⊥) → 0 < diaryLen k → 16 ≤ diaryLen k
+at-least-sixteen k h p =
+    ⊎-elim
+    (λ (a : k < 2). absurd (omega (arith, kind-zero k (omega (arith, h)))))
+    (λ (a : 2 ≤ k).
+    ⊎-elim (λ (b : k < 4). omega (arith, kind-sixteen k a (omega arith))) (λ (b : 4 ≤ k). omega (arith, at-least-twenty k h (λ e. omega arith) (λ e. omega arith) p)) (lt-or-ge k 4))
+    (lt-or-ge k 2)
+
+pub as-diary : (k : ℕ) → k ≤ 4 → diaryLen k ≡ fixedLen k
+unfolding fixedLen
+as-diary k h = rw (le-leb k 4 h) refl
 
 -- which kind it is (with `fixedLen` unfolded, its length)
 pub fixed-at : (k n : ℕ) → k ≡ n → fixedLen k ≡ fixedLen n
 fixed-at k n e = ap fixedLen e
-
-pub two-three : (k : ℕ) → 2 ≤ k → k ≤ 3 → fixedLen k ≡ 16
-unfolding fixedLen
-two-three k l h = ⊎-elim (λ (e : 2 ≡ k). fixed-at k 2 (sym e)) (λ (a : 2 < k). fixed-at k 3 (omega arith)) (eq-or-lt-of-le l)
 
 pub nineteen-twenty : (k : ℕ) → 19 ≤ k → k ≤ 20 → fixedLen k ≡ 10
 unfolding fixedLen
 nineteen-twenty k l h = ⊎-elim (λ (e : 19 ≡ k). fixed-at k 19 (sym e)) (λ (a : 19 < k). fixed-at k 20 (omega arith)) (eq-or-lt-of-le l)
 
 -- no other kind is known
-pub unknown : (k : ℕ) → (k ≡ 1 → ⊥) → (k ≡ 2 → ⊥) → (k ≡ 3 → ⊥) → (k ≡ 4 → ⊥) → (k ≡ 17 → ⊥) → (k ≡ 18 → ⊥) → (k ≡ 19 → ⊥) → (k ≡ 20 → ⊥) → (k ≡ 21 → ⊥) → (k ≡ 22 → ⊥) → (k ≡ 23 → ⊥) → (k ≡ 24 → ⊥) → fixedLen k ≡ 0
+pub unknown : (k : ℕ) → 4 < k → (k ≡ 17 → ⊥) → (k ≡ 18 → ⊥) → (k ≡ 19 → ⊥) → (k ≡ 20 → ⊥) → (k ≡ 21 → ⊥) → (k ≡ 22 → ⊥) → (k ≡ 23 → ⊥) → (k ≡ 24 → ⊥) → fixedLen k ≡ 0
 unfolding fixedLen
-unknown k h1 h2 h3 h4 h17 h18 h19 h20 h21 h22 h23 h24 =
-    simp (ne-eqb k 1 h1, ne-eqb k 2 h2, ne-eqb k 3 h3, ne-eqb k 4 h4, ne-eqb k 17 h17, ne-eqb k 18 h18, ne-eqb k 19 h19, ne-eqb k 20 h20, ne-eqb k 21 h21, ne-eqb k 22 h22, ne-eqb k 23 h23, ne-eqb k 24 h24)
+unknown k h h17 h18 h19 h20 h21 h22 h23 h24 =
+    simp (lt-leb k 4 h, ne-eqb k 17 h17, ne-eqb k 18 h18, ne-eqb k 19 h19, ne-eqb k 20 h20, ne-eqb k 21 h21, ne-eqb k 22 h22, ne-eqb k 23 h23, ne-eqb k 24 h24)
 
 -- the kinds from 5 on
 pub from-seventeen : (k : ℕ) → 4 < k → 0 < fixedLen k → (17 ≤ k) × (k ≤ 24)
 from-seventeen k l h =
     ⊎-elim
-    (λ (a : k < 17). absurd (omega (arith, unknown k (λ e. omega arith) (λ e. omega arith) (λ e. omega arith) (λ e. omega arith) (λ e. omega arith) (λ e. omega arith) (λ e. omega arith) (λ e. omega arith) (λ e. omega arith) (λ e. omega arith) (λ e. omega arith) (λ e. omega arith))))
+    (λ (a : k < 17). absurd (omega (arith, unknown k l (λ e. omega arith) (λ e. omega arith) (λ e. omega arith) (λ e. omega arith) (λ e. omega arith) (λ e. omega arith) (λ e. omega arith) (λ e. omega arith))))
     (λ (a : 17 ≤ k).
     ⊎-elim
     (λ (b : k < 25). (omega arith, omega arith))
-    (λ (b : 25 ≤ k). absurd (omega (arith, unknown k (λ e. omega arith) (λ e. omega arith) (λ e. omega arith) (λ e. omega arith) (λ e. omega arith) (λ e. omega arith) (λ e. omega arith) (λ e. omega arith) (λ e. omega arith) (λ e. omega arith) (λ e. omega arith) (λ e. omega arith))))
+    (λ (b : 25 ≤ k). absurd (omega (arith, unknown k l (λ e. omega arith) (λ e. omega arith) (λ e. omega arith) (λ e. omega arith) (λ e. omega arith) (λ e. omega arith) (λ e. omega arith) (λ e. omega arith))))
     (lt-or-ge k 25))
     (lt-or-ge k 17)
 
@@ -78,12 +128,6 @@ there rest len h =
 pub body-of : (k : ℕ) (bs : List ℕ) (i n : ℕ) (r len : ℕ) → lenOf k bs i ≡ len → r ≡ whole (n - i) len → r ≡ bodyLen k bs i n
 unfolding bodyLen
 body-of k bs i n r len a b = rw a b
-
--- a known kind up to 4 is at least 1
-pub from-one : (k : ℕ) → k ≤ 4 → 0 < fixedLen k → 1 ≤ k
-unfolding fixedLen
-from-one zero h p = absurd (omega arith)
-from-one (suc k) h p = omega arith
 
 -- a part of an order has at least nine bytes
 pub nine : (k : ℕ) → 22 ≤ k → k ≤ 24 → 9 ≤ fixedLen k

@@ -3,25 +3,31 @@ use Prim.Native.Nat.{ℕ, _+_, _-_}
 use mathlib.Core.Bool.{cond, _||_}
 use mathlib.Core.List.{List}
 use lib.ListN.{getD}
-use lib.Dec.{ltb, eqb}
+use lib.Dec.{leb, ltb, eqb}
 
 -- the byte at index i
 abbrev pub byte : List ℕ → ℕ → ℕ
 byte bs i = getD bs i 0
 
--- 1 to 4 as in `slot`; 17 to 24 by their tables in docs/RECORDS.md; 0 for an unknown kind
-unfoldable pub fixedLen : ℕ → ℕ
-fixedLen kind =
+-- a diary's kinds (01, 'Program slot'). 1: capacity (4 bytes); 2 window, 3 block: start, end (8 each); 4 booking: start, end, units (4);
+-- 5 fit, 6 resumable: from, span, units; 0 for any other kind
+unfoldable pub diaryLen : ℕ → ℕ
+diaryLen kind =
     cond (eqb kind 1) 4
     (cond (eqb kind 2 || eqb kind 3) 16
-    (cond (eqb kind 4) 20
+    (cond (eqb kind 4 || (eqb kind 5 || eqb kind 6)) 20 0))
+
+-- 1 to 4 are a diary's; 17 to 24 by their tables in docs/RECORDS.md; 0 for an unknown kind
+unfoldable pub fixedLen : ℕ → ℕ
+fixedLen kind =
+    cond (leb kind 4) (diaryLen kind)
     (cond (eqb kind 17) 17
     (cond (eqb kind 18) 11
     (cond (eqb kind 19 || eqb kind 20) 10
     (cond (eqb kind 21) 38
     (cond (eqb kind 22) 19
     (cond (eqb kind 23) 9
-    (cond (eqb kind 24) 25 0)))))))))
+    (cond (eqb kind 24) 25 0)))))))
 
 -- kind 16 ends with a count, at index 10 of its body, and that many numbers
 unfoldable pub lenOf : ℕ → List ℕ → ℕ → ℕ

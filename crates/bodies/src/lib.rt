@@ -1,17 +1,17 @@
-// How long the body of a record is (docs/RECORDS.md, kinds 1 to 4 and 16 to 24).
+// How long the body of a record is (docs/RECORDS.md): of a diary's kinds, and of those of a board and an order.
 ghost use mathlib.Core.Path.{_≡_};
 ghost use Prim.Native.Nat.{_≤_, _<_};
 ghost use lib.ListN.{length};
-ghost use Rattle.bodies.specs.Bodies.{fixedLen, whole, bodyLen};
+ghost use Rattle.bodies.specs.Bodies.{diaryLen, fixedLen, whole, bodyLen};
 
-fn diary_len(kind: u8) -> usize
-    requires { ⌜ kind ≤ 4 ⌝ }
-    ensures { λ r. ⌜ r ≡ fixedLen kind ⌝ }
+// How many bytes the body of a diary's kind has, 0 for any other kind.
+pub fn diary_len(kind: u8) -> usize
+    ensures { λ r. ⌜ r ≡ diaryLen kind ⌝ }
 {
     match kind {
         1 => 4,
         2 | 3 => 16,
-        4 => 20,
+        4 | 5 | 6 => 20,
         _ => 0,
     }
 }

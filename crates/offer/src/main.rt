@@ -50,5 +50,5 @@ fn main() {
         used = streams::relieve(&out, used, 2251);
         used = print(answer, &slate, &mut out, used);
     }
-    streams::finish(&out, used);
+    streams::relieve(&out, used, 65536);
 }

@@ -1,5 +1,5 @@
 -- What the parts of a record's doing answer, in the words of the definitions.
-use mathlib.Core.Path.{_≡_}
+use mathlib.Core.Path.{_≡_, _∙_}
 use mathlib.Core.Bool.{true, false}
 use mathlib.Core.List.{List}
 use Prim.Native.Nat.{ℕ, _+_, _-_, _^_, _≤_, _<_}
@@ -20,7 +20,8 @@ use Rattle.records.specs.declared.Turn.{Turn}
 use Rattle.slot_text.specs.declared.Line.the-variants.{Nothing, Refused}
 use Rattle.slot_text.specs.Lines.{nothing, line, lineOf}
 use Rattle.slot_text.specs.Numbers.{little}
-use Rattle.records.specs.Records.{Done, Turned, bodyLen, steppedOf, turnOf, capacityReply, books, asks, recordDoes, ends, turnReply}
+use Rattle.bodies.specs.Bodies.{diaryLen}
+use Rattle.records.specs.Records.{Done, Turned, steppedOf, turnOf, capacityReply, books, asks, recordDoes, ends, turnReply}
 
 pub books-taken : (b : Booked) → b .refusal ≡ 0 → steppedOf (record { timeline = b .timeline; line = Nothing }) ≡ books b
 unfolding steppedOf books lineOf
@@ -97,18 +98,17 @@ module _ (t : ResourceTimeline) (bs : List ℕ) (i n : ℕ) where
   unfolding turnReply
   turn-none d h e = rw (le-leb n i h) e
 
-  pub turn-unknown : (d : Turned) → i < n → 20 < bodyLen (getD bs i 0) → d ≡ ends t (line (refused 9)) i → d ≡ turnReply t bs i n
+  pub turn-unknown : (d : Turned) → i < n → diaryLen (getD bs i 0) ≡ 0 → d ≡ ends t (line (refused 9)) i → d ≡ turnReply t bs i n
   unfolding turnReply
-  turn-unknown d h l e = rw (lt-leb n i h, lt-ltb 20 (bodyLen (getD bs i 0)) l) e
+  turn-unknown d h l e = rw (lt-leb n i h, eq-eqb (diaryLen (getD bs i 0)) 0 l) e
 
-  pub turn-cut : (d : Turned) → i < n → bodyLen (getD bs i 0) ≤ 20 → n - i ≤ bodyLen (getD bs i 0) → d ≡ ends t (line (refused 9)) i → d ≡ turnReply t bs i n
+  pub turn-cut : (d : Turned) → i < n → (diaryLen (getD bs i 0) ≡ 0 → ⊥) → n - i ≤ diaryLen (getD bs i 0) → d ≡ ends t (line (refused 9)) i → d ≡ turnReply t bs i n
   unfolding turnReply
-  turn-cut d h l m e = rw (lt-leb n i h, le-ltb 20 (bodyLen (getD bs i 0)) l, le-leb (n - i) (bodyLen (getD bs i 0)) m) e
+  turn-cut d h l m e = rw (lt-leb n i h, ne-eqb (diaryLen (getD bs i 0)) 0 l, le-leb (n - i) (diaryLen (getD bs i 0)) m) e
 
-  pub turn-goes : (s : Stepped) (m : ℕ) → m ≡ bodyLen (getD bs i 0) → i < n → m ≤ 20 → m < n - i → steppedOf s ≡ recordDoes t (getD bs i 0) bs (i + 1)
+  pub turn-goes : (s : Stepped) (m : ℕ) → m ≡ diaryLen (getD bs i 0) → i < n → (m ≡ 0 → ⊥) → m < n - i → steppedOf s ≡ recordDoes t (getD bs i 0) bs (i + 1)
       → turnOf (record { timeline = s .timeline; line = s .line; at = i + 1 + m; more = true }) ≡ turnReply t bs i n
   unfolding turnReply turnOf steppedOf
   turn-goes s m q h l o e =
-      let l′ : bodyLen (getD bs i 0) ≤ 20 = omega arith in
-      let o′ : bodyLen (getD bs i 0) < n - i = omega arith in
-      rw (lt-leb n i h, le-ltb 20 (bodyLen (getD bs i 0)) l′, lt-leb (n - i) (bodyLen (getD bs i 0)) o′, ← e, ← q)
+      let o′ : diaryLen (getD bs i 0) < n - i = omega arith in
+      rw (lt-leb n i h, ne-eqb (diaryLen (getD bs i 0)) 0 (λ z. l (q ∙ z)), lt-leb (n - i) (diaryLen (getD bs i 0)) o′, ← e, ← q)

@@ -13,24 +13,17 @@ use Rattle.timeline.specs.Book.{bookReply, calendarReply}
 use Rattle.timeline.specs.Ask.{Reply, refused, fitReply, resumableReply}
 use Rattle.records.specs.declared.Stepped.{Stepped}
 use Rattle.records.specs.declared.Turn.{Turn}
+use Rattle.bodies.specs.Bodies.{diaryLen}
 use Rattle.slot_text.specs.Numbers.{little}
 use Rattle.slot_text.specs.Lines.{Printed, nothing, line, lineOf}
 
--- kind 1: capacity (4 bytes); 2 window, 3 block: start, end (8 each); 4 booking: start, end, units (4); 5 fit, 6 resumable: from, span,
--- units. 21, more than any body has, for any other kind
-unfoldable pub bodyLen : ℕ → ℕ
-bodyLen kind =
-    cond (eqb kind 1) 4
-    (cond (eqb kind 2 || eqb kind 3) 16
-    (cond (eqb kind 4 || (eqb kind 5 || eqb kind 6)) 20 21))
-
 -- an unknown kind
 abbrev pub unknown : ℕ → Bool
-unknown kind = ltb 20 (bodyLen kind)
+unknown kind = eqb (diaryLen kind) 0
 
 -- a cut body: behind the kind byte at index i fewer bytes are left, up to index n, than the body has
 abbrev pub cut : ℕ → ℕ → ℕ → Bool
-cut kind i n = leb (n - i) (bodyLen kind)
+cut kind i n = leb (n - i) (diaryLen kind)
 
 -- the diary after a record, and what the record prints
 pub record Done : Type 0 where
@@ -82,4 +75,4 @@ unfoldable pub turnReply : ResourceTimeline → List ℕ → ℕ → ℕ → Tur
 turnReply t bs i n =
     cond (leb n i) (ends t nothing i)
     (cond (unknown (getD bs i 0) || cut (getD bs i 0) i n) (ends t (line (refused 9)) i)
-    (record { done = recordDoes t (getD bs i 0) bs (i + 1); at = i + 1 + bodyLen (getD bs i 0); more = true }))
+    (record { done = recordDoes t (getD bs i 0) bs (i + 1); at = i + 1 + diaryLen (getD bs i 0); more = true }))

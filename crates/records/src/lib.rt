@@ -5,11 +5,12 @@ use slot_text::number;
 use timeline::Booked;
 use timeline::ResourceTimeline;
 ghost use mathlib.Core.Path.{_≡_};
-ghost use Prim.Native.Nat.{_+_, _≤_};
+ghost use Prim.Native.Nat.{_+_, _≤_, _<_};
 ghost use lib.ListN.{length};
 ghost use mathlib.Core.Bool.{false};
 ghost use Rattle.slot_text.specs.Lines.{lineOf, line as printed};
-ghost use Rattle.records.specs.Records.{bodyLen, steppedOf, turnOf, capacityReply, books, asks, recordDoes, turnReply};
+ghost use Rattle.bodies.specs.Bodies.{diaryLen};
+ghost use Rattle.records.specs.Records.{steppedOf, turnOf, capacityReply, books, asks, recordDoes, turnReply};
 ghost use Rattle.asks.specs.Answers.{replyOf};
 
 // What a record does: the diary afterwards, and what it prints.
@@ -24,18 +25,6 @@ pub struct Turn {
     pub line: Line,
     pub at: usize,
     pub more: bool,
-}
-
-// How many bytes the body of a record has, 21 for an unknown kind.
-fn body_len(kind: u8) -> usize
-    ensures { λ r. ⌜ r ≡ bodyLen kind ⌝ }
-{
-    match kind {
-        1 => 4,
-        2 | 3 => 16,
-        4 | 5 | 6 => 20,
-        _ => 21,
-    }
 }
 
 // Kind 1: a new diary, or 1 for a capacity above 2^31 - 1.
@@ -95,7 +84,7 @@ fn line_of(a: Answer) -> Line
 
 // What one record of a known kind does, its body beginning at `at`.
 pub fn step(timeline: ResourceTimeline, kind: u8, bytes: &[u8], at: usize) -> Stepped
-    requires { ⌜ (bodyLen kind ≤ 20) × (at + bodyLen kind ≤ length (now bytes)) ⌝ }
+    requires { ⌜ (0 < diaryLen kind) × (at + diaryLen kind ≤ length (now bytes)) ⌝ }
     ensures { λ r. ⌜ steppedOf r ≡ recordDoes timeline kind (now (bytes .entry)) at ⌝ }
 {
     if kind == 1 {
@@ -145,8 +134,8 @@ pub fn record(timeline: ResourceTimeline, bytes: &[u8], at: usize, len: usize) -
         return last(timeline, Line::Nothing, at);
     }
     let kind = bytes[at];
-    let n = body_len(kind);
-    if n > 20 {
+    let n = bodies::diary_len(kind);
+    if n == 0 {
         return last(timeline, Line::Refused(9), at);
     }
     if len - at <= n {

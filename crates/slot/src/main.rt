@@ -47,5 +47,5 @@ fn main() {
         used = streams::relieve(&out, used, 46);
         used = print(line, &mut out, used);
     }
-    streams::finish(&out, used);
+    streams::relieve(&out, used, 65536);
 }

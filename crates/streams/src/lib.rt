@@ -5,5 +5,4 @@ mod output;
 
 pub use input::Input;
 pub use input::supply;
-pub use output::finish;
 pub use output::relieve;

@@ -12,7 +12,8 @@ fn write_front(out: &[u8], n: usize)
     io::write_all(1, &out[..n]);
 }
 
-// Writes the `used` bytes that wait where less than `room` is left behind them. Answers how many wait now: all of them, or none.
+// Writes the `used` bytes that wait where less than `room` is left behind them; all that wait where the whole buffer is asked for.
+// Answers how many wait now: all of them, or none.
 pub fn relieve(out: &[u8; 65536], used: usize, room: usize) -> usize
     requires { ⌜ (used ≤ 65536) × (room ≤ 65536) ⌝ }
     ensures { λ r. ⌜ (r ≡ waiting used room) × (r + room ≤ 65536) ⌝ }
@@ -22,11 +23,4 @@ pub fn relieve(out: &[u8; 65536], used: usize, room: usize) -> usize
         return 0;
     }
     used
-}
-
-// Writes all that waits.
-pub fn finish(out: &[u8; 65536], used: usize)
-    requires { ⌜ used ≤ 65536 ⌝ }
-{
-    write_front(out, used);
 }

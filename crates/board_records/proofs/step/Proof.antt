@@ -2,13 +2,13 @@
 use borrow.Author.Needs.{needs}
 use native.Mathlib.Omega.{arith}
 use Rattle.bodies.specs.Bodies.{fixedLen}
-use Rattle.bodies.proofs.Lengths.{fixed-at, from-seventeen, of-fixed, of-resource, from-one}
+use Rattle.bodies.proofs.Lengths.{fixed-at, from-seventeen, of-fixed, of-resource, as-diary}
 use Rattle.board_records.proofs.Doing.{steps-diary, steps-add, steps-entry, steps-order, steps-part}
 use Rattle.board_records.proofs.step.Statement.{statement}
 use Rattle.board_records.proofs.step.Tie as tie
 
 on-diary-requires : tie.Need-on-diary-requires
-on-diary-requires c κs = let e = of-fixed (c .before .before .args .kind) (c .before .before .args .bytes .now) (c .before .before .args .at) (λ e. omega arith) in (from-one (c .before .before .args .kind) (omega arith) (omega (arith, e, c .before .before .pre .0)), omega arith, omega (arith, e, c .before .before .pre .1))
+on-diary-requires c κs = let e = of-fixed (c .before .before .args .kind) (c .before .before .args .bytes .now) (c .before .before .args .at) (λ e. omega arith) in let f = as-diary (c .before .before .args .kind) (omega arith) in (omega (arith, e, f, c .before .before .pre .0), omega (arith, e, f, c .before .before .pre .1))
 
 returns : tie.Need-returns
 returns c = steps-diary _ _ _ _ _ (omega arith) (c .on-diary .ensures)

@@ -1,27 +1,23 @@
 -- `bodies::diary_len` meets its contract: by its kind, the length is the definition's.
 use native.Mathlib.Omega.{arith}
-use mathlib.Core.Path.{sym}
-use Rattle.bodies.specs.Bodies.{fixedLen}
-use Rattle.bodies.proofs.Lengths.{fixed-at, two-three, unknown}
+use Rattle.bodies.proofs.Lengths.{kind-four, kind-sixteen, kind-twenty, kind-zero, kind-more}
 use Rattle.bodies.proofs.diary_len.Statement.{statement}
 use Rattle.bodies.proofs.diary_len.Tie as tie
 
 returns : tie.Need-returns
-unfolding fixedLen
-returns c = sym (fixed-at (c .before .args .kind) 1 (omega arith))
+returns c = kind-four _ (omega arith)
 
 returns-2 : tie.Need-returns-2
-unfolding fixedLen
-returns-2 c = sym (fixed-at (c .before .args .kind) 4 (omega arith))
+returns-2 c = kind-sixteen _ (omega arith) (omega arith)
 
 returns-3 : tie.Need-returns-3
-returns-3 c = sym (two-three _ (omega arith) (omega arith))
+returns-3 c = kind-twenty _ (omega arith) (omega arith)
 
 returns-4 : tie.Need-returns-4
-returns-4 c = sym (unknown _ (λ e. omega arith) (λ e. omega arith) (λ e. omega arith) (λ e. omega arith) (λ e. omega arith) (λ e. omega arith) (λ e. omega arith) (λ e. omega arith) (λ e. omega arith) (λ e. omega arith) (λ e. omega arith) (λ e. omega arith))
+returns-4 c = kind-zero _ (omega arith)
 
 returns-5 : tie.Need-returns-5
-returns-5 c = sym (unknown _ (λ e. omega arith) (λ e. omega arith) (λ e. omega arith) (λ e. omega arith) (λ e. omega arith) (λ e. omega arith) (λ e. omega arith) (λ e. omega arith) (λ e. omega arith) (λ e. omega arith) (λ e. omega arith) (λ e. omega arith))
+returns-5 c = kind-more _ (omega arith)
 
 pub diary-len-spec : {M : Type 1} → statement M
 diary-len-spec = tie.close (tie.spec returns returns-2 returns-3 returns-4 returns-5)

@@ -23,7 +23,7 @@ unfolding fixedLen
 returns-4 c = sym (fixed-at (c .before .args .kind) 24 (omega arith))
 
 returns-5 : tie.Need-returns-5
-returns-5 c = sym (unknown _ (λ e. omega arith) (λ e. omega arith) (λ e. omega arith) (λ e. omega arith) (λ e. omega arith) (λ e. omega arith) (λ e. omega arith) (λ e. omega arith) (λ e. omega arith) (λ e. omega arith) (λ e. omega arith) (λ e. omega arith))
+returns-5 c = sym (unknown _ (omega arith) (λ e. omega arith) (λ e. omega arith) (λ e. omega arith) (λ e. omega arith) (λ e. omega arith) (λ e. omega arith) (λ e. omega arith) (λ e. omega arith))
 
 pub order-len-spec : {M : Type 1} → statement M
 order-len-spec = tie.close (tie.spec returns returns-2 returns-3 returns-4 returns-5)

@@ -49,8 +49,8 @@ loop-again c =
     let l = c .before .before .before .before .before .before .before .before .before .supply .ensures .lies in
     (record { low = n .0; high = l .high }, c .print .ensures)
 
-finish-requires : tie.Need-finish-requires Inv-loop μ-loop
-finish-requires c κs = search needs
+relieve-requires-2 : tie.Need-relieve-requires-2 Inv-loop μ-loop
+relieve-requires-2 c κs = search needs
 
 returns : tie.Need-returns Inv-loop μ-loop
 returns c = search needs
@@ -72,5 +72,5 @@ main-spec =
     print-requires
     loop-less
     loop-again
-    finish-requires
+    relieve-requires-2
     returns)

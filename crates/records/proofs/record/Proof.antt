@@ -16,15 +16,15 @@ returns c = (turn-none _ _ _ _ _ (omega arith) (turn-ends _ _ _ _ (c .last .ensu
 shared-slice-read-kind : tie.Need-shared-slice-read-kind
 shared-slice-read-kind c = search needs
 
-body-len-requires : tie.Need-body-len-requires
-body-len-requires c κs = search needs
+diary-len-requires : tie.Need-diary-len-requires
+diary-len-requires c κs = search needs
 
 last-requires-2 : tie.Need-last-requires-2
 last-requires-2 c κs = search needs
 
 returns-2 : tie.Need-returns-2
 unfolding lineOf
-returns-2 c = (turn-unknown _ _ _ _ _ (omega arith) (omega (arith, c .before .before .body-len .ensures)) (turn-ends _ _ _ _ (c .last2 .ensures .0) (c .last2 .ensures .1) (c .last2 .ensures .2) (c .last2 .ensures .3)), omega arith)
+returns-2 c = (turn-unknown _ _ _ _ _ (omega arith) (omega (arith, c .before .before .diary-len .ensures)) (turn-ends _ _ _ _ (c .last2 .ensures .0) (c .last2 .ensures .1) (c .last2 .ensures .2) (c .last2 .ensures .3)), omega arith)
 
 sub-if3 : tie.Need-sub-if3
 sub-if3 c = search needs
@@ -34,7 +34,7 @@ last-requires-3 c κs = search needs
 
 returns-3 : tie.Need-returns-3
 unfolding lineOf
-returns-3 c = (turn-cut _ _ _ _ _ (omega arith) (omega (arith, c .before .before .before .body-len .ensures)) (omega (arith, c .before .before .before .body-len .ensures)) (turn-ends _ _ _ _ (c .last3 .ensures .0) (c .last3 .ensures .1) (c .last3 .ensures .2) (c .last3 .ensures .3)), omega arith)
+returns-3 c = (turn-cut _ _ _ _ _ (omega arith) (λ z. omega (arith, c .before .before .before .diary-len .ensures)) (omega (arith, c .before .before .before .diary-len .ensures)) (turn-ends _ _ _ _ (c .last3 .ensures .0) (c .last3 .ensures .1) (c .last3 .ensures .2) (c .last3 .ensures .3)), omega arith)
 
 add-step : tie.Need-add-step
 add-step c = search needs
@@ -49,7 +49,7 @@ add-t17 : tie.Need-add-t17
 add-t17 c = search needs
 
 returns-4 : tie.Need-returns-4
-returns-4 c = (turn-goes _ _ _ _ _ _ (c .before .before .before .before .body-len .ensures) (omega arith) (omega arith) (omega arith) (c .before .step .ensures), omega arith)
+returns-4 c = (turn-goes _ _ _ _ _ _ (c .before .before .before .before .diary-len .ensures) (omega arith) (λ z. omega arith) (omega arith) (c .before .step .ensures), omega arith)
 
 pub record-spec : {M : Type 1} → statement M
 record-spec =
@@ -58,7 +58,7 @@ record-spec =
     last-requires
     returns
     shared-slice-read-kind
-    body-len-requires
+    diary-len-requires
     last-requires-2
     returns-2
     sub-if3

@@ -2,7 +2,7 @@
 use borrow.Author.Needs.{needs}
 use native.Mathlib.Omega.{arith}
 use Rattle.records.proofs.Doing.{does-renew, does-window, does-block, does-booking, does-fit, does-resumable}
-use Rattle.records.proofs.Lengths.{kind-four, at-least-sixteen, at-least-twenty}
+use Rattle.bodies.proofs.Lengths.{kind-four, at-least-sixteen, at-least-twenty}
 use Rattle.records.proofs.step.Statement.{statement}
 use Rattle.records.proofs.step.Tie as tie
 
@@ -16,13 +16,13 @@ returns : tie.Need-returns
 returns c = does-renew _ _ _ _ _ _ (omega arith) (c .before .number .ensures .0) (c .renew .ensures)
 
 number-requires-2 : tie.Need-number-requires-2
-number-requires-2 c κs = (omega arith, omega (arith, at-least-sixteen (c .before .before .args .kind) (λ e. omega arith), c .before .before .pre))
+number-requires-2 c κs = (omega arith, omega (arith, at-least-sixteen (c .before .before .args .kind) (λ e. omega arith) (c .before .before .pre .0), c .before .before .pre))
 
 add-number : tie.Need-add-number
 add-number c = search needs
 
 number-requires-3 : tie.Need-number-requires-3
-number-requires-3 c κs = (omega arith, omega (arith, at-least-sixteen (c .before .before .before .args .kind) (λ e. omega arith), c .before .before .before .pre))
+number-requires-3 c κs = (omega arith, omega (arith, at-least-sixteen (c .before .before .before .args .kind) (λ e. omega arith) (c .before .before .before .pre .0), c .before .before .before .pre))
 
 add-window-requires : tie.Need-add-window-requires
 add-window-requires c κs = search needs
@@ -46,7 +46,7 @@ add-number-2 : tie.Need-add-number-2
 add-number-2 c = search needs
 
 number-requires-4 : tie.Need-number-requires-4
-number-requires-4 c κs = (omega arith, omega (arith, at-least-twenty (c .before .before .before .before .before .before .args .kind) (λ e. omega arith) (λ e. omega arith) (λ e. omega arith), c .before .before .before .before .before .before .pre))
+number-requires-4 c κs = (omega arith, omega (arith, at-least-twenty (c .before .before .before .before .before .before .args .kind) (λ e. omega arith) (λ e. omega arith) (λ e. omega arith) (c .before .before .before .before .before .before .pre .0), c .before .before .before .before .before .before .pre))
 
 cast-units : tie.Need-cast-units
 cast-units c = search needs
