@@ -15,14 +15,14 @@ use Rattle.activity.specs.Check.{requirementsOf, activityRefusal}
 use Rattle.activity.proofs.Judging.{accepted}
 use Rattle.board.specs.declared.Board.{Board}
 use Rattle.board.specs.Valid.{valid}
-use Rattle.scheduler.specs.declared.Hold.{Hold}
+use Rattle.scheduler.specs.declared.Selection.{Selection}
 use Rattle.scheduler.specs.Choosing as scheduler
-use Rattle.scheduler.specs.Holds.{noHold, heldOf, heldTo, OnPlaces}
+use Rattle.scheduler.specs.Selections.{noSelection, heldOf, heldTo, OnPlaces}
 use Rattle.scheduler.specs.Counting.{instants-few, instants-fall}
 use Rattle.scheduler.specs.Arrays.{each-at}
 use Rattle.scheduler.specs.Lists.{Each, each-weaken, each-in-map}
 use Rattle.scheduler.specs.Rounds.{greatest-le}
-use Rattle.rounds.specs.declared.Holding.{Holding}
+use Rattle.rounds.specs.declared.Selections.{Selections}
 use Rattle.rounds.specs.declared.Rounds.{Rounds}
 use Rattle.rounds.specs.Rounds.{Led, Fewer, roundOf, choiceOf, Lasting, Chosen, Settled}
 
@@ -31,7 +31,7 @@ unfolding scheduler.choosing
 led-start b v a ready = record { left = 10000; more = omega (arith, instants-few b v a ready ready); so = refl }
 
 -- the round at t, and one fewer left
-module _ (b : Board) (a : Activity) (ready t : ℕ) (k : Led b a ready t) (h : Holding) (e : roundOf b h ≡ scheduler.round b a ready t (requirementsOf a)) where
+module _ (b : Board) (a : Activity) (ready t : ℕ) (k : Led b a ready t) (h : Selections) (e : roundOf b h ≡ scheduler.round b a ready t (requirementsOf a)) where
   abbrev rest : ℕ
   rest = k .left - 1
 
@@ -68,18 +68,18 @@ module _ (b : Board) (a : Activity) (ready t : ℕ) (k : Led b a ready t) (h : H
       led-on = record { left = rest; more = omega (arith, led-fewer, k .more); so = rw (ne-eqb next t s) at held }
 
 -- those held start by 2^43
-pub greatest-soon : (b : Board) (hs : List Hold) → Each (Lasting b) hs → scheduler.greatestStart (map (heldOf b) hs) ≤ lastAsked
+pub greatest-soon : (b : Board) (hs : List Selection) → Each (Lasting b) hs → scheduler.greatestStart (map (heldOf b) hs) ≤ lastAsked
 unfolding heldOf
 greatest-soon b hs a = greatest-le lastAsked (map (heldOf b) hs) (each-in-map (λ h. h .start ≤ lastAsked) (heldOf b) hs (each-weaken (Lasting b) (λ h. h .start ≤ lastAsked) hs (λ h l. l .soon) a))
 
 -- and stand on the board
-pub on-places : (b : Board) (hs : List Hold) (n : ℕ) → n ≤ length hs → Each (Lasting b) (take n hs) → OnPlaces b hs n
+pub on-places : (b : Board) (hs : List Selection) (n : ℕ) → n ≤ length hs → Each (Lasting b) (take n hs) → OnPlaces b hs n
 on-places b hs n m a = record { stands = λ k l. one k l .stands; some = λ k l. one k l .some }
   where
-    one : (k : ℕ) → k < n → Lasting b (getD hs k noHold)
+    one : (k : ℕ) → k < n → Lasting b (getD hs k noSelection)
     one k l =
         let e : length (take n hs) ≡ n = length-take-le n hs m in
-        subst (Lasting b) (getD-take n hs k noHold l) (each-at (Lasting b) noHold (take n hs) a k (omega arith))
+        subst (Lasting b) (getD-take n hs k noSelection l) (each-at (Lasting b) noSelection (take n hs) a k (omega arith))
 
 -- no choice: the rounds are done, or have led on
 pub settled-none : (b : Board) (a : Activity) (ready : ℕ) (x : Rounds) → x .choice .chosen ≡ false → x .choice .instant ≡ 0
