@@ -23,11 +23,11 @@ use Rattle.board.specs.Setups.{setupMs, matrixSetup}
 use Rattle.board.specs.Valid.{valid}
 use Rattle.board.proofs.Meaning.{resource-of, setup-small}
 use Rattle.scheduler.specs.declared.Entry.{Entry}
-use Rattle.scheduler.specs.declared.Hold.{Hold}
+use Rattle.scheduler.specs.declared.Selection.{Selection}
 use Rattle.scheduler.specs.Alone.{companionsOf, spanOf}
 use Rattle.scheduler.specs.Choosing.{Held}
 use Rattle.scheduler.specs.Fitting.{numberOf, numbersOf, durationTogether, heldEntry, heldEntries, greatestSetup, joinEach, allCompanions, companionEntry, companionEntries, entriesOf, spanTogether}
-use Rattle.scheduler.specs.Holds.{noHold, heldOf, heldTo, OnPlaces}
+use Rattle.scheduler.specs.Selections.{noSelection, heldOf, heldTo, OnPlaces}
 use Rattle.entries.specs.declared.Parts.{Parts}
 use Rattle.joining.specs.Cells.{noEntry, numberIn}
 use Rattle.entries.specs.Parts.{keptSetup, setupAt, Taken, Parted}
@@ -55,7 +55,7 @@ kept-true f x own s e h = rw e h
 pub kept-false : (f : Bool) (x own s : ℕ) → f ≡ false → s ≡ own → s ≡ cond f x own
 kept-false f x own s e h = rw e h
 
-pub entry-kept : (p : Parts) (hs : List Hold) (own k s : ℕ) → s ≡ keptSetup p own k → record { number = getD (p .numbers) k 0; setup = s; units = getD hs k noHold .usage; companion = false } ≡ setupAt p hs own k
+pub entry-kept : (p : Parts) (hs : List Selection) (own k s : ℕ) → s ≡ keptSetup p own k → record { number = getD (p .numbers) k 0; setup = s; units = getD hs k noSelection .usage; companion = false } ≡ setupAt p hs own k
 entry-kept p hs own k s e = rw e refl
 
 -- two arrays filled together
@@ -68,37 +68,37 @@ kept-next fs ss i f s g l m h e k n own =
     (same-or-not i k)
 
 -- the companions in the plan of one held
-pub plan-companions : (b : Board) (a : Activity) (ready : ℕ) (plans : List Plan) (hs : List Hold) (n : ℕ) → Taken b a ready plans hs n → (i : ℕ) → i < n
-    → (getD plans (getD hs i noHold .place) noPlan .count ≤ 4) × ((k : ℕ) → k < getD plans (getD hs i noHold .place) noPlan .count → getD (getD plans (getD hs i noHold .place) noPlan .companions) k 0 < 16)
+pub plan-companions : (b : Board) (a : Activity) (ready : ℕ) (plans : List Plan) (hs : List Selection) (n : ℕ) → Taken b a ready plans hs n → (i : ℕ) → i < n
+    → (getD plans (getD hs i noSelection .place) noPlan .count ≤ 4) × ((k : ℕ) → k < getD plans (getD hs i noSelection .place) noPlan .count → getD (getD plans (getD hs i noSelection .place) noPlan .companions) k 0 < 16)
 unfolding planWith
 plan-companions b a ready plans hs n t i l =
     let r = resource-of b (t .right) _ (t .places .stands i l) in
     rw (t .planned .so _ (t .places .stands i l)) (r .few, λ k m. omega (arith, r .companions k m))
 
-module _ (b : Board) (hs : List Hold) where
+module _ (b : Board) (hs : List Selection) where
   abbrev on : ℕ → Resource
-  on k = resourceAt b (getD hs k noHold .place)
+  on k = resourceAt b (getD hs k noSelection .place)
 
   pub companions-next : (i : ℕ) → i < length hs → allCompanions (heldTo b hs (i + 1)) ≡ allCompanions (heldTo b hs i) ++ companionsOf (on i)
   unfolding heldOf
   companions-next i l =
-      ap (λ (xs : List Hold). allCompanions (map (heldOf b) xs)) (take-next hs i noHold l)
-      ∙ ap allCompanions (map-append (heldOf b) (take i hs) (getD hs i noHold ∷ []))
-      ∙ companions-last (heldTo b hs i) (heldOf b (getD hs i noHold))
+      ap (λ (xs : List Selection). allCompanions (map (heldOf b) xs)) (take-next hs i noSelection l)
+      ∙ ap allCompanions (map-append (heldOf b) (take i hs) (getD hs i noSelection ∷ []))
+      ∙ companions-last (heldTo b hs i) (heldOf b (getD hs i noSelection))
 
   module _ (n : ℕ) (l : n ≤ length hs) where
     pub numbers-are : (ns : List ℕ) → n ≤ length ns → ((k : ℕ) → k < n → getD ns k 0 ≡ on k .number) → take n ns ≡ numbersOf (heldTo b hs n)
     unfolding heldOf
-    numbers-are ns m h = cells-map (λ x. resourceAt b (x .place) .number) noHold 0 n hs ns l m h ∙ sym (map-map numberOf (heldOf b) (take n hs))
+    numbers-are ns m h = cells-map (λ x. resourceAt b (x .place) .number) noSelection 0 n hs ns l m h ∙ sym (map-map numberOf (heldOf b) (take n hs))
 
     pub entries-are : (category own : ℕ) (p : Parts) (es : List Entry) → n ≤ length es → Parted b category hs n p → ((k : ℕ) → k < n → getD es k noEntry ≡ setupAt p hs own k) → take n es ≡ heldEntries category own (heldTo b hs n)
     unfolding heldOf
     entries-are category own p es m d h =
-        cells-map (λ x. heldEntry category own (heldOf b x)) noHold noEntry n hs es l m (λ k i. h k i ∙ rw (d .numbers k i, d .setups k i own) refl)
+        cells-map (λ x. heldEntry category own (heldOf b x)) noSelection noEntry n hs es l m (λ k i. h k i ∙ rw (d .numbers k i, d .setups k i own) refl)
         ∙ sym (map-map (heldEntry category own) (heldOf b) (take n hs))
 
 -- the entries and the span of all held together
-module _ (b : Board) (a : Activity) (hs : List Hold) (n : ℕ) (p : Parts) (d : ActivityDuration) (es : List Entry) (v : valid b ≡ true) (w : Lawful (a .duration) (a .timings)) (c : a .category ≤ 15) (few : n ≤ 8) (wide : length es ≡ 24) (on-places : OnPlaces b hs n) (parts : Parted b (a .category) hs n p) (e : d ≡ durationOn (a .duration) (a .timings) (take n (p .numbers))) (f : (k : ℕ) → k < n → getD es k noEntry ≡ setupAt p hs (d .setup) k) where
+module _ (b : Board) (a : Activity) (hs : List Selection) (n : ℕ) (p : Parts) (d : ActivityDuration) (es : List Entry) (v : valid b ≡ true) (w : Lawful (a .duration) (a .timings)) (c : a .category ≤ 15) (few : n ≤ 8) (wide : length es ≡ 24) (on-places : OnPlaces b hs n) (parts : Parted b (a .category) hs n p) (e : d ≡ durationOn (a .duration) (a .timings) (take n (p .numbers))) (f : (k : ℕ) → k < n → getD es k noEntry ≡ setupAt p hs (d .setup) k) where
   together : d ≡ durationTogether a (heldTo b hs n)
   unfolding durationTogether
   together = e ∙ ap (durationOn (a .duration) (a .timings)) (numbers-are b hs n (omega (arith, parts .held)) (p .numbers) (omega (arith, parts .long)) (parts .numbers))
@@ -115,8 +115,8 @@ module _ (b : Board) (a : Activity) (hs : List Hold) (n : ℕ) (p : Parts) (d : 
     where
       each : (k : ℕ) → k < n → getD es k noEntry .setup ≤ 2 ^ 36
       each k l =
-          let r = resource-of b v (getD hs k noHold .place) (on-places .stands k l) in
-          rw (f k l, parts .setups k l (d .setup)) (setup-small (resourceAt b (getD hs k noHold .place) .matrix) (resourceAt b (getD hs k noHold .place) .last) (a .category) (d .setup) (r .matrix) (r .last) c (duration-small .setup-range))
+          let r = resource-of b v (getD hs k noSelection .place) (on-places .stands k l) in
+          rw (f k l, parts .setups k l (d .setup)) (setup-small (resourceAt b (getD hs k noSelection .place) .matrix) (resourceAt b (getD hs k noSelection .place) .last) (a .category) (d .setup) (r .matrix) (r .last) c (duration-small .setup-range))
 
   pub span-is : greatestSetup (take n es) + d .process + d .teardown ≡ spanTogether a (heldTo b hs n)
   unfolding spanTogether spanOf

@@ -10,10 +10,10 @@ use Rattle.board.specs.Resources.{resourceAt}
 use Rattle.board.specs.Setups.{setupOn}
 use Rattle.board.specs.Valid.{valid}
 use Rattle.scheduler.specs.declared.Entry.{Entry}
-use Rattle.scheduler.specs.declared.Hold.{Hold}
+use Rattle.scheduler.specs.declared.Selection.{Selection}
 use Rattle.scheduler.specs.Fitting.{allCompanions}
 use Rattle.scheduler.specs.Lists.{Each}
-use Rattle.scheduler.specs.Holds.{noHold, heldTo, OnPlaces}
+use Rattle.scheduler.specs.Selections.{noSelection, heldTo, OnPlaces}
 use Rattle.plans.specs.declared.Plan.{Plan}
 use Rattle.plans.specs.Plans.{Planned}
 use Rattle.entries.specs.declared.Parts.{Parts}
@@ -21,24 +21,24 @@ pub use Rattle.joining.specs.Cells.{noEntry, Small}
 
 -- the setup kept for the k-th held; without a matrix it is `own`
 abbrev pub keptSetup : Parts → ℕ → ℕ → ℕ
-keptSetup p own k = cond (getD (p .fixed) k false) (getD (p .setups) k 0) own
+keptSetup p own k = cond (getD (p .matrices) k false) (getD (p .setups) k 0) own
 
 -- the entry of the k-th held
-abbrev pub setupAt : Parts → List Hold → ℕ → ℕ → Entry
-setupAt p hs own k = record { number = getD (p .numbers) k 0; setup = keptSetup p own k; units = getD hs k noHold .usage; companion = false }
+abbrev pub setupAt : Parts → List Selection → ℕ → ℕ → Entry
+setupAt p hs own k = record { number = getD (p .numbers) k 0; setup = keptSetup p own k; units = getD hs k noSelection .usage; companion = false }
 
 -- those held stand on a board that keeps the rules, and their plans are known
-pub record Taken (b : Board) (a : Activity) (ready : ℕ) (plans : List Plan) (hs : List Hold) (n : ℕ) : Type 0 where
+pub record Taken (b : Board) (a : Activity) (ready : ℕ) (plans : List Plan) (hs : List Selection) (n : ℕ) : Type 0 where
   pub right : valid b ≡ true
   pub planned : Planned b a ready (b .len) plans
   pub places : OnPlaces b hs n
 
 -- what was taken is the board's
-pub record Parted (b : Board) (category : ℕ) (hs : List Hold) (n : ℕ) (p : Parts) : Type 0 where
+pub record Parted (b : Board) (category : ℕ) (hs : List Selection) (n : ℕ) (p : Parts) : Type 0 where
   pub held : length hs ≡ 8
   pub long : length (p .numbers) ≡ 8
-  pub numbers : (k : ℕ) → k < n → getD (p .numbers) k 0 ≡ resourceAt b (getD hs k noHold .place) .number
-  pub setups : (k : ℕ) → k < n → (own : ℕ) → keptSetup p own k ≡ setupOn (resourceAt b (getD hs k noHold .place)) category own
+  pub numbers : (k : ℕ) → k < n → getD (p .numbers) k 0 ≡ resourceAt b (getD hs k noSelection .place) .number
+  pub setups : (k : ℕ) → k < n → (own : ℕ) → keptSetup p own k ≡ setupOn (resourceAt b (getD hs k noSelection .place)) category own
   pub companions : take (p .companions .len) (p .companions .numbers) ≡ allCompanions (heldTo b hs n)
   pub few : p .companions .len ≤ 32
   pub small : Each Small (take (p .companions .len) (p .companions .numbers))

@@ -7,7 +7,7 @@ use joining::join_each;
 pub use joining::no_entries;
 use plans::Plan;
 use scheduler::Entry;
-use scheduler::Hold;
+use scheduler::Selection;
 ghost use mathlib.Core.Path.{_≡_};
 ghost use mathlib.Core.List.{_++_};
 ghost use Prim.Native.Nat.{ℕ, _+_, _^_, _≤_, _<_};
@@ -16,7 +16,7 @@ ghost use Rattle.activity.specs.declared.Activity as ordered;
 ghost use Rattle.activity.specs.Lawful.{Lawful};
 ghost use Rattle.board.specs.declared.Board as declared;
 ghost use Rattle.scheduler.specs.Fitting.{greatestSetup, entriesOf, spanTogether};
-ghost use Rattle.scheduler.specs.Holds.{heldTo};
+ghost use Rattle.scheduler.specs.Selections.{heldTo};
 ghost use Rattle.scheduler.specs.Lists.{Each};
 ghost use Rattle.entries.specs.Parts.{noEntry, setupAt, Small, Taken, Parted};
 
@@ -26,10 +26,10 @@ pub struct Together {
     pub span: u64,
 }
 
-// What the entries take from the plans: the numbers held, the setups of those with a matrix, and the companions.
+// What the entries take from the plans: the numbers held, which of them have a matrix, the setups of those, and the companions.
 struct Parts {
     numbers: [u8; 8],
-    fixed: [bool; 8],
+    matrices: [bool; 8],
     setups: [u64; 8],
     companions: Companions,
 }
@@ -53,12 +53,12 @@ fn push_each(list: Companions, more: [u8; 4], count: usize) -> Companions
 }
 
 // What the plans of those held have.
-fn parts_of(plans: [Plan; 16], held: [Hold; 8], count: usize) -> Parts
+fn parts_of(plans: [Plan; 16], held: [Selection; 8], count: usize) -> Parts
     requires { ⌜ (count ≤ 8) × ((b : declared.Board) × (a : ordered.Activity) × (ready : ℕ) × Taken b a ready plans held count) ⌝ }
     ensures { λ r. ⌜ ((b : declared.Board) (a : ordered.Activity) (ready : ℕ) → Taken b a ready plans held count → Parted b (a .category) held count r) ⌝ }
 {
     let mut numbers: [u8; 8] = [0; 8];
-    let mut fixed: [bool; 8] = [false; 8];
+    let mut matrices: [bool; 8] = [false; 8];
     let mut setups: [u64; 8] = [0; 8];
     let mut list = Companions {
         numbers: [0; 32],
@@ -70,7 +70,7 @@ fn parts_of(plans: [Plan; 16], held: [Hold; 8], count: usize) -> Parts
         let place = h.place;
         let p = plans[place];
         numbers[i] = p.number;
-        fixed[i] = p.fixed;
+        matrices[i] = p.matrix;
         setups[i] = p.setup;
         let companions = p.companions;
         list = push_each(list, companions, p.count);
@@ -78,25 +78,25 @@ fn parts_of(plans: [Plan; 16], held: [Hold; 8], count: usize) -> Parts
     }
     Parts {
         numbers: numbers,
-        fixed: fixed,
+        matrices: matrices,
         setups: setups,
         companions: list,
     }
 }
 
 // The entries of those held, `own` being the setup without a matrix.
-fn held_entries(p: Parts, held: [Hold; 8], count: usize, own: u64) -> Entries
+fn held_entries(p: Parts, held: [Selection; 8], count: usize, own: u64) -> Entries
     requires { ⌜ count ≤ 8 ⌝ }
     ensures { λ r. ⌜ (r .count ≡ count) × (length (r .entries) ≡ 24) × ((k : ℕ) → k < count → getD (r .entries) k noEntry ≡ setupAt p held own k) ⌝ }
 {
     let numbers = p.numbers;
-    let fixed = p.fixed;
+    let matrices = p.matrices;
     let setups = p.setups;
     let mut e = no_entries();
     let mut i: usize = 0;
     while i < count {
         let h = held[i];
-        let setup = if fixed[i] { setups[i] } else { own };
+        let setup = if matrices[i] { setups[i] } else { own };
         e.entries[i] = Entry {
             number: numbers[i],
             setup: setup,
@@ -127,7 +127,7 @@ fn greatest_setup(e: Entries) -> u64
 }
 
 // The entries of those held and their companions, and the span: the greatest setup among those held, process and teardown.
-pub fn entries_of(plans: [Plan; 16], a: Activity, held: [Hold; 8], count: usize) -> Together
+pub fn entries_of(plans: [Plan; 16], a: Activity, held: [Selection; 8], count: usize) -> Together
     requires { ⌜ Lawful (a .duration) (a .timings) × (a .category ≤ 15) × (count ≤ 8) × ((b : declared.Board) × (ready : ℕ) × Taken b a ready plans held count) ⌝ }
     ensures { λ r. ⌜ (r .entries .count ≤ 24) × (length (r .entries .entries) ≡ 24) × (r .span ≤ 2 ^ 53) ⌝ }
     ensures { λ r. ⌜ ((b : declared.Board) (ready : ℕ) → Taken b a ready plans held count → (take (r .entries .count) (r .entries .entries) ≡ entriesOf a (heldTo b held count)) × (r .span ≡ spanTogether a (heldTo b held count))) ⌝ }

@@ -1,7 +1,6 @@
 -- Edges that no reply shows, on the definitions: what a diary holds.
 use mathlib.Core.Path.{_≡_, refl}
 use mathlib.Core.List.{[], _∷_}
-use Prim.Native.Nat.{ℕ}
 use lib.ListN.{replicate}
 use lib.IntN.{pos, negsuc}
 use Rattle.calendar.specs.Every.{everyFrom}

@@ -14,10 +14,10 @@ use Rattle.board.specs.declared.Board.{Board}
 use Rattle.board.specs.Resources.{onBoard}
 use Rattle.board.specs.Valid.{valid}
 use Rattle.scheduler.specs.declared.Entry.{Entry}
-use Rattle.scheduler.specs.declared.Hold.{Hold}
+use Rattle.scheduler.specs.declared.Selection.{Selection}
 use Rattle.scheduler.specs.Choosing.{Held, chosen, choosing}
 use Rattle.scheduler.specs.Fitting.{heldEntry, heldEntries, durationTogether, companionEntry, companionEntries, joinEach, numbersOf, allCompanions, entriesOf}
-use Rattle.scheduler.specs.Holds.{noHold, heldOf, heldTo, OnPlaces}
+use Rattle.scheduler.specs.Selections.{noSelection, heldOf, heldTo, OnPlaces}
 use Rattle.scheduler.specs.Lists.{Each, each-all, each-append, each-in-map}
 use Rattle.scheduler.specs.Arrays.{each-at, each-cells}
 use Rattle.scheduler.specs.Chosen.{Chooses}
@@ -36,7 +36,7 @@ module _ (a : Activity) where
       (each-in-map (λ e. 1 ≤ e .units) (heldEntry (a .category) (durationTogether a hs .setup)) hs z)
       (each-in-map (λ e. 1 ≤ e .units) companionEntry J (each-all (λ c. 1 ≤ 1) J (λ c. omega arith)))
 
-held-usage : (b : Board) (hs : List Hold) → Each (λ h. 1 ≤ h .usage) hs → Each {A = Held} (λ h. 1 ≤ h .usage) (map (heldOf b) hs)
+held-usage : (b : Board) (hs : List Selection) → Each (λ h. 1 ≤ h .usage) hs → Each {A = Held} (λ h. 1 ≤ h .usage) (map (heldOf b) hs)
 unfolding heldOf
 held-usage b hs z = each-in-map (λ h. 1 ≤ h .usage) (heldOf b) hs z
 
@@ -46,7 +46,7 @@ module _ (b : Board) (v : valid b ≡ true) (a : Activity) (ready t : ℕ) (lawf
       let w : Chooses (enough b a ready (q ∷ qs)) (heldAt b a ready (q ∷ qs)) ready (chosen t hs) = subst (Chooses (enough b a ready (q ∷ qs)) (heldAt b a ready (q ∷ qs)) ready) e (choosing-means b v a ready q qs asks (some-of-each a ready q qs asks lawful)) in
       subst (λ (l : List Held). Each (λ e. onBoard b (e .number) ≡ true) (entriesOf a l)) (sym (w .1)) (entries-on b a (heldAt b a ready (q ∷ qs) t) (held-at-whole b a ready v (q ∷ qs) t))
 
-  module _ (hs : List Hold) (m : ℕ) (places : OnPlaces b hs m) (few : m ≤ length hs) (e : choosing b a ready ≡ chosen t (heldTo b hs m)) (es : List Entry) (n : ℕ) (l : n ≤ 24) (long : length es ≡ 24) (f : take n es ≡ entriesOf a (heldTo b hs m)) where
+  module _ (hs : List Selection) (m : ℕ) (places : OnPlaces b hs m) (few : m ≤ length hs) (e : choosing b a ready ≡ chosen t (heldTo b hs m)) (es : List Entry) (n : ℕ) (l : n ≤ 24) (long : length es ≡ 24) (f : take n es ≡ entriesOf a (heldTo b hs m)) where
     on : (k : ℕ) → k < n → onBoard b (getD es k noEntry .number) ≡ true
     on k i =
         let z : length (take n es) ≡ n = length-take-le n es (omega (arith, long)) in
@@ -56,7 +56,7 @@ module _ (b : Board) (v : valid b ≡ true) (a : Activity) (ready t : ℕ) (lawf
     units : (k : ℕ) → k < n → 1 ≤ getD es k noEntry .units
     units k i =
         let z : length (take n es) ≡ n = length-take-le n es (omega (arith, long)) in
-        let w : Each (λ y. 1 ≤ y .units) (take n es) = subst (Each (λ y. 1 ≤ y .units)) (sym f) (entries-some a (heldTo b hs m) (held-usage b (take m hs) (each-cells (λ h. 1 ≤ h .usage) noHold m hs (λ k l o. places .some k l)))) in
+        let w : Each (λ y. 1 ≤ y .units) (take n es) = subst (Each (λ y. 1 ≤ y .units)) (sym f) (entries-some a (heldTo b hs m) (held-usage b (take m hs) (each-cells (λ h. 1 ≤ h .usage) noSelection m hs (λ k l o. places .some k l)))) in
         rw (getD-take n es k noEntry i) at (each-at (λ y. 1 ≤ y .units) noEntry (take n es) w k (omega (arith, z)))
 
     pub entered : EntriesOn b es n

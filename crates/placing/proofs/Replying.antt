@@ -19,7 +19,7 @@ use Rattle.scheduler.specs.Choosing.{Held, Choice, noChoice, chosen, choosing}
 use Rattle.scheduler.specs.Fitting.{entriesOf, spanTogether}
 use Rattle.scheduler.specs.Placing.{none, refused, fitted, fitChosen, timeOnly, byRequirements, placing, placeReply}
 use Rattle.calendar.specs.Refusals.{refusedOr, refused-by}
-use Rattle.scheduler.specs.Holds.{heldTo}
+use Rattle.scheduler.specs.Selections.{heldTo}
 use Rattle.rounds.specs.declared.Choice as code
 use Rattle.rounds.specs.Rounds.{choiceOf}
 use Rattle.fitting.specs.Closing.{EntriesOn}

@@ -14,16 +14,16 @@ use Rattle.plans.specs.declared.Plan.{Plan}
 
 -- what is read past an array's end
 abbrev pub noPlan : Plan
-noPlan = record { number = 0; kind = 0; skills = 0; companions = []; count = 0; span = 0; process = 0; arrival = 0; fixed = false; setup = 0 }
+noPlan = record { number = 0; kind = 0; skills = 0; companions = []; count = 0; span = 0; process = 0; arrival = 0; matrix = false; setup = 0 }
 
 -- before anything is planned
 abbrev pub blankPlan : Plan
-blankPlan = record { number = 0; kind = 0; skills = 0; companions = replicate 4 0; count = 0; span = 0; process = 0; arrival = 0; fixed = false; setup = 0 }
+blankPlan = record { number = 0; kind = 0; skills = 0; companions = replicate 4 0; count = 0; span = 0; process = 0; arrival = 0; matrix = false; setup = 0 }
 
 -- the plan of a resource that is reached at an instant
 unfoldable pub planWith : Activity → Resource → ℕ → Plan
 planWith a r arrives =
-    record { number = r .number; kind = r .kind; skills = r .skills; companions = r .companions; count = r .count; span = spanAlone a r; process = durationAlone a r .process; arrival = arrives; fixed = r .matrix .present; setup = setupOn r (a .category) 0 }
+    record { number = r .number; kind = r .kind; skills = r .skills; companions = r .companions; count = r .count; span = spanAlone a r; process = durationAlone a r .process; arrival = arrives; matrix = r .matrix .present; setup = setupOn r (a .category) 0 }
 
 abbrev pub planOf : Board → Activity → ℕ → Resource → Plan
 planOf b a ready r = planWith a r (arrival b a ready r)

@@ -12,8 +12,8 @@ ghost use Rattle.board.specs.Transport.{greatestTransport};
 ghost use Rattle.board.specs.Places.{anywhere};
 ghost use Rattle.plans.specs.Plans.{blankPlan, planWith};
 
-// A resource with its companions, its span, process time and arrival, and its setup where a matrix gives it: none of them changes from
-// round to round.
+// A resource with its companions, its span, process time and arrival, whether it has a matrix, and the setup by that: none of them changes
+// from round to round.
 pub struct Plan {
     pub number: u8,
     pub kind: u8,
@@ -23,7 +23,7 @@ pub struct Plan {
     pub span: u64,
     pub process: u64,
     pub arrival: u64,
-    pub fixed: bool,
+    pub matrix: bool,
     pub setup: u64,
 }
 
@@ -40,7 +40,7 @@ pub fn no_plans() -> [Plan; 16]
         span: 0,
         process: 0,
         arrival: 0,
-        fixed: false,
+        matrix: false,
         setup: 0,
     };
     [none; 16]
@@ -67,7 +67,7 @@ pub fn plan_of(r: Resource, a: Activity, ready: u64, transport: &[u64; 256]) -> 
         span: setup + d.process + d.teardown,
         process: d.process,
         arrival: ready + setups::transport_between(transport, a.origins, r.number),
-        fixed: matrix.present,
+        matrix: matrix.present,
         setup: setups::setup_ms(matrix, last, a.category, 0),
     }
 }

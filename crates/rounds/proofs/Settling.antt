@@ -1,38 +1,37 @@
 -- The rounds: t becomes the greatest start held, until it stays.
 use mathlib.Core.Path.{_≡_, refl, sym, ap, _∙_, subst}
 use mathlib.Core.Bool.{true, false, cond}
-use mathlib.Core.List.{List}
+use mathlib.Core.List.{List, map}
 use Prim.Native.Nat.{ℕ, suc, _-_, _^_, _≤_, _<_}
 use native.Mathlib.Omega.{arith}
 use lib.ListN.{getD, length, take}
 use lib.Seq.{getD-take, length-take-le}
 use lib.Dec.{eqb}
 use borrow.Author.Tests.{eq-eqb, ne-eqb}
-use Rattle.calendar.specs.Searching.{greatest-most}
+use Rattle.calendar.specs.Limits.{lastAsked}
 use Rattle.calendar.specs.Basics.{not-both}
 use Rattle.activity.specs.declared.Activity.{Activity}
 use Rattle.activity.specs.Check.{requirementsOf, activityRefusal}
 use Rattle.activity.proofs.Judging.{accepted}
 use Rattle.board.specs.declared.Board.{Board}
 use Rattle.board.specs.Valid.{valid}
-use Rattle.scheduler.specs.declared.Hold.{Hold}
+use Rattle.scheduler.specs.declared.Selection.{Selection}
 use Rattle.scheduler.specs.Choosing as scheduler
-use Rattle.scheduler.specs.Holds.{noHold, heldTo, OnPlaces}
+use Rattle.scheduler.specs.Selections.{noSelection, heldOf, heldTo, OnPlaces}
 use Rattle.scheduler.specs.Counting.{instants-few, instants-fall}
 use Rattle.scheduler.specs.Arrays.{each-at}
-use Rattle.scheduler.specs.Lists.{Each}
-use Rattle.rounds.specs.declared.Holding.{Holding}
+use Rattle.scheduler.specs.Lists.{Each, each-weaken, each-in-map}
+use Rattle.scheduler.specs.Rounds.{greatest-le}
+use Rattle.rounds.specs.declared.Selections.{Selections}
 use Rattle.rounds.specs.declared.Rounds.{Rounds}
-use Rattle.rounds.specs.Named.{latestStart}
 use Rattle.rounds.specs.Rounds.{Led, Fewer, roundOf, choiceOf, Lasting, Chosen, Settled}
-use Rattle.rounds.proofs.Behind.{latest-is}
 
 pub led-start : (b : Board) → valid b ≡ true → (a : Activity) (ready : ℕ) → Led b a ready ready
 unfolding scheduler.choosing
 led-start b v a ready = record { left = 10000; more = omega (arith, instants-few b v a ready ready); so = refl }
 
 -- the round at t, and one fewer left
-module _ (b : Board) (a : Activity) (ready t : ℕ) (k : Led b a ready t) (h : Holding) (e : roundOf b h ≡ scheduler.round b a ready t (requirementsOf a)) where
+module _ (b : Board) (a : Activity) (ready t : ℕ) (k : Led b a ready t) (h : Selections) (e : roundOf b h ≡ scheduler.round b a ready t (requirementsOf a)) where
   abbrev rest : ℕ
   rest = k .left - 1
 
@@ -49,11 +48,11 @@ module _ (b : Board) (a : Activity) (ready t : ℕ) (k : Led b a ready t) (h : H
 
   module _ (f : h .enough ≡ true) where
     abbrev next : ℕ
-    next = latestStart (take (h .count) (h .held))
+    next = scheduler.greatestStart (heldTo b (h .held) (h .count))
 
     held : cond (eqb next t) (scheduler.chosen t (heldTo b (h .held) (h .count))) (scheduler.rounds rest b a ready next) ≡ scheduler.choosing b a ready
     unfolding roundOf scheduler.settle
-    held = rw (latest-is b (take (h .count) (h .held))) (rw f at turn)
+    held = rw f at turn
 
     -- t stays
     pub led-stays : next ≡ t → scheduler.chosen t (heldTo b (h .held) (h .count)) ≡ scheduler.choosing b a ready
@@ -63,26 +62,24 @@ module _ (b : Board) (a : Activity) (ready t : ℕ) (k : Led b a ready t) (h : H
     module _ (v : valid b ≡ true) (accept : activityRefusal a ready ≡ 0) (asks : 1 ≤ length (requirementsOf a)) (s : next ≡ t → ⊥) where
       pub led-fewer : Fewer b a ready t next
       unfolding roundOf
-      led-fewer =
-          let m = latest-is b (take (h .count) (h .held)) in
-          rw m (instants-fall b v a ready (requirementsOf a) refl asks (accepted a ready accept .some) t (heldTo b (h .held) (h .count)) (sym e ∙ rw f refl) (λ z. s (m ∙ z)))
+      led-fewer = instants-fall b v a ready (requirementsOf a) refl asks (accepted a ready accept .some) t (heldTo b (h .held) (h .count)) (sym e ∙ rw f refl) s
 
       pub led-on : Led b a ready next
       led-on = record { left = rest; more = omega (arith, led-fewer, k .more); so = rw (ne-eqb next t s) at held }
 
 -- those held start by 2^43
-pub latest-soon : (b : Board) (hs : List Hold) → Each (Lasting b) hs → latestStart hs ≤ 2 ^ 43
-unfolding latestStart
-latest-soon b hs a = greatest-most (λ (h : Hold). h .start) noHold hs (2 ^ 43) (λ k l. each-at (Lasting b) noHold hs a k l .soon)
+pub greatest-soon : (b : Board) (hs : List Selection) → Each (Lasting b) hs → scheduler.greatestStart (map (heldOf b) hs) ≤ lastAsked
+unfolding heldOf
+greatest-soon b hs a = greatest-le lastAsked (map (heldOf b) hs) (each-in-map (λ h. h .start ≤ lastAsked) (heldOf b) hs (each-weaken (Lasting b) (λ h. h .start ≤ lastAsked) hs (λ h l. l .soon) a))
 
 -- and stand on the board
-pub on-places : (b : Board) (hs : List Hold) (n : ℕ) → n ≤ length hs → Each (Lasting b) (take n hs) → OnPlaces b hs n
+pub on-places : (b : Board) (hs : List Selection) (n : ℕ) → n ≤ length hs → Each (Lasting b) (take n hs) → OnPlaces b hs n
 on-places b hs n m a = record { stands = λ k l. one k l .stands; some = λ k l. one k l .some }
   where
-    one : (k : ℕ) → k < n → Lasting b (getD hs k noHold)
+    one : (k : ℕ) → k < n → Lasting b (getD hs k noSelection)
     one k l =
         let e : length (take n hs) ≡ n = length-take-le n hs m in
-        subst (Lasting b) (getD-take n hs k noHold l) (each-at (Lasting b) noHold (take n hs) a k (omega arith))
+        subst (Lasting b) (getD-take n hs k noSelection l) (each-at (Lasting b) noSelection (take n hs) a k (omega arith))
 
 -- no choice: the rounds are done, or have led on
 pub settled-none : (b : Board) (a : Activity) (ready : ℕ) (x : Rounds) → x .choice .chosen ≡ false → x .choice .instant ≡ 0

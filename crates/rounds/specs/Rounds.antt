@@ -8,10 +8,10 @@ use Rattle.activity.specs.declared.ResourceRequirement.{ResourceRequirement}
 use Rattle.activity.specs.declared.Activity.{Activity}
 use Rattle.board.specs.declared.Board.{Board}
 use Rattle.board.specs.Resources.{resourcesOf, resourceAt}
-use Rattle.scheduler.specs.declared.Hold.{Hold}
+use Rattle.scheduler.specs.declared.Selection.{Selection}
 use Rattle.scheduler.specs.Alone.{durationAlone}
 use Rattle.scheduler.specs.Choosing as scheduler
-use Rattle.scheduler.specs.Holds.{noHold, heldTo, OnPlaces}
+use Rattle.scheduler.specs.Selections.{noSelection, heldTo, OnPlaces}
 use Rattle.scheduler.specs.Lists.{Each}
 use Rattle.scheduler.specs.Events.{above}
 use Rattle.scheduler.specs.Ruled.{points}
@@ -21,7 +21,7 @@ use Rattle.answering.specs.Tables.{foundAt, requirementAt}
 use Rattle.rounds.specs.declared.rank.Candidate.{Candidate}
 use Rattle.rounds.specs.declared.rank.Ranked.{Ranked}
 use Rattle.rounds.specs.Named.{rankedOf}
-use Rattle.rounds.specs.declared.Holding.{Holding}
+use Rattle.rounds.specs.declared.Selections.{Selections}
 use Rattle.rounds.specs.declared.Choice.{Choice}
 use Rattle.rounds.specs.declared.Rounds.{Rounds}
 
@@ -45,18 +45,18 @@ pub record SortedFor (b : Board) (a : Activity) (ready t j : ℕ) (k : Ranked) :
   pub fair : Each (Fair b) (take (k .count) (k .candidates))
 
 -- so does one held, and at least a unit is wanted of it
-pub record Lasting (b : Board) (h : Hold) : Type 0 where
+pub record Lasting (b : Board) (h : Selection) : Type 0 where
   pub stands : h .place < b .len
   pub some : 1 ≤ h .usage
   pub soon : h .start ≤ 2 ^ 43
 
 -- the round that the code answers
-unfoldable pub roundOf : Board → Holding → scheduler.Round
+unfoldable pub roundOf : Board → Selections → scheduler.Round
 roundOf b h = cond (h .enough) (scheduler.holds (heldTo b (h .held) (h .count))) scheduler.tooFew
 
 -- no choice
 abbrev pub noChoice : List Plan → Choice
-noChoice plans = record { chosen = false; instant = 0; held = replicate 8 noHold; count = 0; plans = plans }
+noChoice plans = record { chosen = false; instant = 0; held = replicate 8 noSelection; count = 0; plans = plans }
 
 -- and the choice
 unfoldable pub choiceOf : Board → Choice → scheduler.Choice

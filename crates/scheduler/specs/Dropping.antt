@@ -7,11 +7,11 @@ use Prim.Native.Nat.{ℕ, zero, suc, _≤_, _<_}
 use native.Mathlib.Omega.{arith}
 use lib.ListN.{length, take}
 use lib.Dec.{ltb, eqb}
-use borrow.Author.Tests.{ltb-true, ltb-false, lt-ltb, le-ltb, eqb-true, eqb-false, eq-eqb}
+use borrow.Author.Tests.{ltb-true, ltb-false, lt-ltb, eqb-true, eqb-false}
 use Rattle.calendar.specs.Basics.{not-both}
-use Rattle.scheduler.specs.Choosing.{Candidate, comesFirst, insert, sortInto, sort, insertBy}
+use Rattle.scheduler.specs.Choosing.{Candidate, sooner, comesFirst, insert, sortInto, sort, insertBy}
 use Rattle.scheduler.specs.Lists.{Each, each-end, each-on, each-weaken, Pairs, pairs-end, pairs-on}
-use Rattle.scheduler.specs.Ranking.{each-insert}
+use Rattle.scheduler.specs.Ranking.{sooner-less, sooner-even, each-insert}
 
 -- earlier, or at the same start of shorter processing
 abbrev pub First : Candidate → Candidate → Type 0
@@ -22,7 +22,7 @@ abbrev pub Not : Candidate → Candidate → Type 0
 Not c d = (d .start < c .start) ⊎ ((c .start ≡ d .start) × (d .process ≤ c .process))
 
 first-says : (c d : Candidate) → comesFirst c d ≡ true → First c d
-unfolding comesFirst
+unfolding sooner
 first-says c d e = go (ltb (c .start) (d .start)) (eqb (c .start) (d .start)) (ltb (c .process) (d .process)) refl refl refl e
   where
     go : (x y z : Bool) → ltb (c .start) (d .start) ≡ x → eqb (c .start) (d .start) ≡ y → ltb (c .process) (d .process) ≡ z → x || (y && z) ≡ true → First c d
@@ -32,7 +32,7 @@ first-says c d e = go (ltb (c .start) (d .start)) (eqb (c .start) (d .start)) (l
     go false false z p q r h = absurd (not-both true refl (sym h))
 
 not-says : (c d : Candidate) → comesFirst c d ≡ false → Not c d
-unfolding comesFirst
+unfolding sooner
 not-says c d e = go (ltb (c .start) (d .start)) (eqb (c .start) (d .start)) (ltb (c .process) (d .process)) refl refl refl e
   where
     go : (x y z : Bool) → ltb (c .start) (d .start) ≡ x → eqb (c .start) (d .start) ≡ y → ltb (c .process) (d .process) ≡ z → x || (y && z) ≡ false → Not c d
@@ -42,9 +42,8 @@ not-says c d e = go (ltb (c .start) (d .start)) (eqb (c .start) (d .start)) (ltb
     go false false z p q r h = let k = eqb-false (c .start) (d .start) q in inl (omega (arith, ltb-false (c .start) (d .start) p, k))
 
 first-is : (c d : Candidate) → First c d → comesFirst c d ≡ true
-unfolding comesFirst
-first-is c d (inl l) = rw (lt-ltb (c .start) (d .start) l) refl
-first-is c d (inr w) = rw (le-ltb (c .start) (d .start) (omega (arith, w .0)), eq-eqb (c .start) (d .start) (w .0), lt-ltb (c .process) (d .process) (w .1)) refl
+first-is c d (inl l) = sooner-less (c .start) (c .process) (d .start) (d .process) l
+first-is c d (inr w) = sooner-even (c .start) (c .process) (d .start) (d .process) (w .0) ∙ lt-ltb (c .process) (d .process) (w .1)
 
 -- x before d, and e not: x before e
 onward : (x d e : Candidate) → First x d → Not e d → First x e
@@ -81,7 +80,7 @@ pub data Sub (D : Candidate → Type 0) (R : Candidate → Candidate → Type 0)
 
 module _ (D : Candidate → Type 0) (R : Candidate → Candidate → Type 0) (starts : (x y : Candidate) → R x y → x .start ≡ y .start) (times : (x y : Candidate) → R x y → x .process ≡ y .process) where
   same-order : (x y d e : Candidate) → R x y → R d e → comesFirst x d ≡ comesFirst y e
-  unfolding comesFirst
+  unfolding sooner
   same-order x y d e p q = rw (starts x y p, times x y p, starts d e q, times d e q) refl
 
   leads : (x y : Candidate) (ds ys : List Candidate) → R x y → Each (λ e. First x e) ds → Sub D R ds ys → insert y ys ≡ y ∷ ys

@@ -33,4 +33,4 @@ pub mod AlikeResources
 pub mod AlikeHeld
 -- How the code reads several diaries and those held.
 pub mod Shares
-pub mod Holds
+pub mod Selections

@@ -3,8 +3,8 @@
 ghost use mathlib.Core.Path.{_≡_};
 ghost use Rattle.scheduler.specs.Placing.{rowOf};
 
-// A resource held, by its place on the board, with its start and the units wanted of it.
-pub struct Hold {
+// A resource held (one of the Rust's `selections`), by its place on the board, with its start and the units wanted of it.
+pub struct Selection {
     pub place: usize,
     pub start: u64,
     pub usage: u32,

@@ -10,7 +10,7 @@ use Prim.Native.Nat.{ℕ, _-_, _≤_, _<_}
 use native.Mathlib.Omega.{arith}
 use borrow.Author.Needs.{needs}
 use lib.ListN.{length, getD, length-set}
-use Rattle.scheduler.specs.Holds.{noHold}
+use Rattle.scheduler.specs.Selections.{noSelection}
 use Rattle.scheduler.specs.Arrays.{filled-next}
 use Rattle.joining.specs.Cells.{noEntry}
 use Rattle.entries.specs.Parts.{setupAt}
@@ -18,11 +18,11 @@ use mathlib.Core.Logic.{⊎-elim}
 use Rattle.entries.proofs.Parting.{entry-kept, kept-true, kept-false}
 
 abbrev Inv-loop : tie.InvT-loop
-Inv-loop count own held numbers fixed setups e₀ i₀ e i = (i ≤ count) × (length (e .entries) ≡ 24)
-    × ((k : ℕ) → k < i → getD (e .entries) k noEntry ≡ record { number = getD numbers k 0; setup = cond (getD fixed k false) (getD setups k 0) own; units = getD held k noHold .usage; companion = false })
+Inv-loop count own held numbers matrices setups e₀ i₀ e i = (i ≤ count) × (length (e .entries) ≡ 24)
+    × ((k : ℕ) → k < i → getD (e .entries) k noEntry ≡ record { number = getD numbers k 0; setup = cond (getD matrices k false) (getD setups k 0) own; units = getD held k noSelection .usage; companion = false })
 
 abbrev μ-loop : tie.MeasureT-loop
-μ-loop count own held numbers fixed setups e₀ i₀ e i = count - i
+μ-loop count own held numbers matrices setups e₀ i₀ e i = count - i
 
 no-entries-requires : tie.Need-no-entries-requires Inv-loop μ-loop
 no-entries-requires c κs = search needs

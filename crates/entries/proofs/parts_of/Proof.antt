@@ -12,7 +12,7 @@ use Rattle.activity.specs.declared.Activity.{Activity}
 use Rattle.board.specs.declared.Board.{Board}
 use Rattle.board.proofs.Facts.{rules}
 use Rattle.scheduler.specs.Fitting.{allCompanions}
-use Rattle.scheduler.specs.Holds.{noHold, heldTo}
+use Rattle.scheduler.specs.Selections.{noSelection, heldTo}
 use Rattle.scheduler.specs.Lists.{Each, each-end}
 use Rattle.scheduler.specs.Arrays.{filled-next}
 use Rattle.plans.specs.declared.Plan.{Plan}
@@ -22,16 +22,16 @@ use Rattle.entries.specs.Parts.{Taken}
 use Rattle.entries.proofs.Parting.{setup-kept, kept-next, companions-next, plan-companions}
 
 abbrev Inv-loop : tie.InvT-loop
-Inv-loop count plans held numbers₀ fixed₀ setups₀ list₀ i₀ numbers fixed setups list i =
-    (i ≤ count) × (length numbers ≡ 8) × (length fixed ≡ 8) × (length setups ≡ 8) × (length held ≡ 8)
-    × ((k : ℕ) → k < i → getD numbers k 0 ≡ getD plans (getD held k noHold .place) noPlan .number)
-    × ((k : ℕ) → k < i → (own : ℕ) → cond (getD fixed k false) (getD setups k 0) own ≡ cond (getD plans (getD held k noHold .place) noPlan .fixed) (getD plans (getD held k noHold .place) noPlan .setup) own)
+Inv-loop count plans held numbers₀ matrices₀ setups₀ list₀ i₀ numbers matrices setups list i =
+    (i ≤ count) × (length numbers ≡ 8) × (length matrices ≡ 8) × (length setups ≡ 8) × (length held ≡ 8)
+    × ((k : ℕ) → k < i → getD numbers k 0 ≡ getD plans (getD held k noSelection .place) noPlan .number)
+    × ((k : ℕ) → k < i → (own : ℕ) → cond (getD matrices k false) (getD setups k 0) own ≡ cond (getD plans (getD held k noSelection .place) noPlan .matrix) (getD plans (getD held k noSelection .place) noPlan .setup) own)
     × (list .len ≤ 4 * i)
     × Each Small (take (list .len) (list .numbers))
     × ((b : Board) (a : Activity) (ready : ℕ) → Taken b a ready plans held count → take (list .len) (list .numbers) ≡ allCompanions (heldTo b held i))
 
 abbrev μ-loop : tie.MeasureT-loop
-μ-loop count plans held numbers₀ fixed₀ setups₀ list₀ i₀ numbers fixed setups list i = count - i
+μ-loop count plans held numbers₀ matrices₀ setups₀ list₀ i₀ numbers matrices setups list i = count - i
 
 loop-holds : tie.Need-loop-holds Inv-loop μ-loop
 unfolding allCompanions
@@ -56,8 +56,8 @@ array-copy-out-p c =
 array-write-numbers : tie.Need-array-write-numbers Inv-loop μ-loop
 array-write-numbers c = search needs
 
-array-write-fixed : tie.Need-array-write-fixed Inv-loop μ-loop
-array-write-fixed c = search needs
+array-write-matrices : tie.Need-array-write-matrices Inv-loop μ-loop
+array-write-matrices c = search needs
 
 mul-setups : tie.Need-mul-setups Inv-loop μ-loop
 mul-setups c = search needs
@@ -92,15 +92,15 @@ loop-again c =
     let e = c .push-each .ensures in (
       omega arith,
       length-set (c .before .before .before .before .before .loop .numbers) i _ ∙ v .1,
-      length-set (c .before .before .before .before .before .loop .fixed) i _ ∙ v .2,
+      length-set (c .before .before .before .before .before .loop .matrices) i _ ∙ v .2,
       length-set (c .before .before .before .before .before .loop .setups) i _ ∙ v .3,
       v .4,
-      filled-next (λ k. getD plans (getD held k noHold .place) noPlan .number) (c .before .before .before .before .before .loop .numbers) i _ 0 (omega (arith, v .1)) (v .5) refl,
-      kept-next (c .before .before .before .before .before .loop .fixed) (c .before .before .before .before .before .loop .setups) i _ _ (λ k own. cond (getD plans (getD held k noHold .place) noPlan .fixed) (getD plans (getD held k noHold .place) noPlan .setup) own) (omega (arith, v .2)) (omega (arith, v .3)) (v .6) (λ own. refl),
+      filled-next (λ k. getD plans (getD held k noSelection .place) noPlan .number) (c .before .before .before .before .before .loop .numbers) i _ 0 (omega (arith, v .1)) (v .5) refl,
+      kept-next (c .before .before .before .before .before .loop .matrices) (c .before .before .before .before .before .loop .setups) i _ _ (λ k own. cond (getD plans (getD held k noSelection .place) noPlan .matrix) (getD plans (getD held k noSelection .place) noPlan .setup) own) (omega (arith, v .2)) (omega (arith, v .3)) (v .6) (λ own. refl),
       omega (arith, e .0, v .7, r .0),
       e .2,
       λ b a ready u.
-          let p = u .planned .so (getD held i noHold .place) (u .places .stands i l) in
+          let p = u .planned .so (getD held i noSelection .place) (u .places .stands i l) in
           e .1 ∙ rw (v .9 b a ready u) (ap (λ (x : Plan). allCompanions (heldTo b held i) ++ take (x .count) (x .companions)) p ∙ sym (companions-next b held i (omega (arith, v .4, d .pre .0)))),
     )
 
@@ -115,7 +115,7 @@ returns c =
       held = v .4;
       long = v .1;
       numbers = λ k m. v .5 k (omega arith) ∙ ap (λ (x : Plan). x .number) (u .planned .so _ (u .places .stands k m));
-      setups = λ k m own. v .6 k (omega arith) own ∙ ap (λ (x : Plan). cond (x .fixed) (x .setup) own) (u .planned .so _ (u .places .stands k m)) ∙ setup-kept _ _ (a .category) own;
+      setups = λ k m own. v .6 k (omega arith) own ∙ ap (λ (x : Plan). cond (x .matrix) (x .setup) own) (u .planned .so _ (u .places .stands k m)) ∙ setup-kept _ _ (a .category) own;
       companions = rw z at (v .9 b a ready u);
       few = omega (arith, v .7, d .pre .0);
       small = v .8;
@@ -133,7 +133,7 @@ parts-of-spec =
     mul-p
     array-copy-out-p
     array-write-numbers
-    array-write-fixed
+    array-write-matrices
     mul-setups
     array-write-setups
     push-each-requires

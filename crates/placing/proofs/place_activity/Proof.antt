@@ -18,7 +18,7 @@ use Rattle.board.specs.Valid.{valid}
 use Rattle.scheduler.specs.Alone.{spanOf}
 use Rattle.scheduler.specs.Choosing.{noChoice, chosen, choosing}
 use Rattle.scheduler.specs.Fitting.{sharesOf}
-use Rattle.scheduler.specs.Holds.{heldTo}
+use Rattle.scheduler.specs.Selections.{heldTo}
 use Rattle.scheduler.specs.Placing.{slateAfter}
 use Rattle.fitting.specs.Closing.{closing, fitOf}
 use Rattle.placing.specs.Steps.{orderRefusal}
