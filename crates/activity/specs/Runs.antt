@@ -1,4 +1,4 @@
--- Durations and the edges of speeds, on the definitions; the doubles of the marked runs.
+-- Durations, the edges of speeds and of an order, and who serves, on the definitions: what the marked runs do not show.
 use mathlib.Core.Path.{_≡_, refl}
 use mathlib.Core.Bool.{true, false}
 use mathlib.Core.List.{[], _∷_}
@@ -19,12 +19,9 @@ use Rattle.activity.specs.Serving.{covers, candidate, serves}
 use Rattle.calendar.specs.Every.{every}
 use Rattle.activity.specs.Check.{releaseRight, short, quantity, quantitiesRight, usageRight, timesRight, activityRefusal}
 
--- 2.0, 1.5, 0.5
+-- 2.0, 0.5
 abbrev pub two : Float
 two = fin false 1 (pos 1)
-
-abbrev pub threeHalves : Float
-threeHalves = fin false 3 (negsuc 0)
 
 abbrev pub half : Float
 half = fin false 1 (negsuc 0)
@@ -38,25 +35,17 @@ at s = record { timing = Speed s }
 abbrev pub own : ℕ → ℕ → ℕ → Timed
 own s p t = record { timing = Duration (lasting s p t) }
 
--- M10 twice · M12: both held, each alone · one resource held twice · no timing · own durations: the greatest total wins, the first among
+-- a speed leaves setup and teardown · one resource held twice · no timing · own durations: the greatest total wins, the first among
 -- equals, and speeds beside them do not count
-pub runs :
-    (durationOn (lasting 1 1001 2) (at two ∷ []) (0 ∷ [])
-    ∷ durationOn (lasting 1 1000 2) (at threeHalves ∷ []) (0 ∷ [])
-    ∷ durationOn (lasting 0 100 0) (at two ∷ at half ∷ []) (0 ∷ 1 ∷ [])
-    ∷ durationOn (lasting 0 100 0) (at two ∷ at half ∷ []) (0 ∷ [])
-    ∷ durationOn (lasting 0 100 0) (at two ∷ at half ∷ []) (1 ∷ [])
+pub durations :
+    (durationOn (lasting 3 100 4) (at two ∷ at half ∷ []) (1 ∷ [])
     ∷ durationOn (lasting 0 100 0) (at two ∷ at half ∷ []) (0 ∷ 0 ∷ [])
     ∷ durationOn (lasting 3 100 4) (at two ∷ untimed ∷ []) (1 ∷ 5 ∷ [])
     ∷ durationOn (lasting 0 100 0) (own 1 2 3 ∷ own 2 2 2 ∷ at two ∷ []) (2 ∷ 0 ∷ 1 ∷ [])
     ∷ durationOn (lasting 0 100 0) (own 1 2 3 ∷ own 2 2 2 ∷ at two ∷ []) (2 ∷ 1 ∷ 0 ∷ [])
     ∷ durationOn (lasting 0 100 0) (own 1 2 3 ∷ own 2 2 3 ∷ []) (0 ∷ 1 ∷ [])
     ∷ [])
-    ≡ lasting 1 501 2
-    ∷ lasting 1 667 2
-    ∷ lasting 0 100 0
-    ∷ lasting 0 50 0
-    ∷ lasting 0 200 0
+    ≡ lasting 3 200 4
     ∷ lasting 0 25 0
     ∷ lasting 3 100 4
     ∷ lasting 1 2 3
@@ -64,7 +53,7 @@ pub runs :
     ∷ lasting 2 2 3
     ∷ []
 unfolding halfUp roundAway processAt greatest product durationOn eq mul div ofInt
-runs = refl
+durations = refl
 
 -- ties go away from zero, on either side of an even number; the double below a half goes down
 pub ties :

@@ -4,7 +4,8 @@ use mathlib.Core.Bool.{true, false}
 use mathlib.Core.List.{List, [], _∷_, _++_, map}
 use Prim.Native.Nat.{ℕ, _-_}
 use lib.ListN.{replicate, length, getD}
-use lib.Ieee.{Float, le, eq, mul, div, ofInt}
+use lib.IntN.{negsuc}
+use lib.Ieee.{Float, fin, le, eq, mul, div, ofInt}
 use Rattle.calendar.specs.declared.Calendar.{Calendar}
 use Rattle.calendar.specs.Search.{leastFrom, greatestOf}
 use Rattle.calendar.specs.Spans.{spansFrom, any, holds, meets, contains}
@@ -32,7 +33,7 @@ use Rattle.activity.specs.Serving.{covers, candidate, serves}
 use Rattle.activity.specs.Ready.{readyOf}
 use Rattle.calendar.specs.Every.{every, everyFrom}
 use Rattle.activity.specs.Check.{releaseRight, short, quantity, quantitiesRight, usageRight, timesRight, activityRefusal}
-use Rattle.activity.specs.Runs.{two, threeHalves, half, lasting, at}
+use Rattle.activity.specs.Runs.{two, half, lasting, at}
 use Rattle.board.specs.declared.Board.{Board}
 use Rattle.board.specs.Resources as resources
 use Rattle.board.specs.Setups.{entryOr, matrixSetup, setupMs}
@@ -63,6 +64,10 @@ run (fit t from span u) = diaryReply (asking.fitReply t from span u)
 run (resumable t from work u) = diaryReply (asking.resumableReply t from work u)
 run (process base speed) = ms (durationOn (lasting 0 base 0) (at speed ∷ []) (0 ∷ []) .process)
 run (place b a ready) = placement (placeReply b a ready 24)
+
+-- 1.5
+abbrev pub threeHalves : Float
+threeHalves = fin false 3 (negsuc 0)
 
 -- windows 0-10, 10-20; window 0-100 with block 40-60
 abbrev pub touching : Calendar

@@ -4,15 +4,13 @@ use board::Resource;
 use board::TransitionMatrix;
 use board::duration_right;
 use board::entry_right;
-use calendar::Calendar;
 use timeline::ResourceTimeline;
 ghost use mathlib.Core.Path.{_≡_};
 ghost use mathlib.Core.Bool.{cond};
 ghost use lib.ListN.{getD};
 ghost use lib.IntN.{pos};
-ghost use Rattle.timeline.specs.Valid as timeline;
 ghost use Rattle.calendar.specs.Every.{everyFrom};
-ghost use Rattle.board.specs.Valid.{isZero, entryRight, ownRight, entryCell, matrixRight, companionCell, companionsRight, lastRight, resourceRight, calendarBlank, diaryBlank, lastBlank, resourceBlank};
+ghost use Rattle.board.specs.Valid.{isZero, entryRight, ownRight, entryCell, matrixRight, companionCell, companionsRight, lastRight, resourceRight, diaryBlank, lastBlank, resourceBlank};
 
 // The default or the initial of a matrix.
 fn own_right(present: bool, ms: i64) -> bool
@@ -160,48 +158,7 @@ fn resource_right(r: Resource) -> bool
     last_right(last)
 }
 
-fn calendar_blank(c: Calendar) -> bool
-    ensures { λ r. ⌜ r ≡ calendarBlank c ⌝ }
-{
-    let windows = c.windows;
-    if windows.len != 0 {
-        return false;
-    }
-    let blocks = c.blocks;
-    if blocks.len != 0 {
-        return false;
-    }
-    calendar::is_valid(c)
-}
-
-fn booking_blank(s: u64, e: u64, u: u32, l: u64) -> bool
-    ensures { λ r. ⌜ r ≡ timeline.cellEmpty s e u l ⌝ }
-{
-    if s != 0 {
-        return false;
-    }
-    if e != 0 {
-        return false;
-    }
-    if u != 0 {
-        return false;
-    }
-    l == 0
-}
-
-fn bookings_blank(t: ResourceTimeline) -> bool
-    ensures { λ r. ⌜ r ≡ everyFrom (timeline.emptyAt t) 0 64 ⌝ }
-{
-    let mut i: usize = 0;
-    while i < 64 {
-        if !booking_blank(t.starts[i], t.ends[i], t.units[i], t.latest[i]) {
-            return false;
-        }
-        i += 1;
-    }
-    true
-}
-
+// With a capacity it would be a diary that keeps the rules, without bookings and without a calendar.
 fn diary_blank(t: ResourceTimeline) -> bool
     ensures { λ r. ⌜ r ≡ diaryBlank t ⌝ }
 {
@@ -214,10 +171,18 @@ fn diary_blank(t: ResourceTimeline) -> bool
     if t.booked != 0 {
         return false;
     }
-    if !calendar_blank(t.calendar) {
+    let c = t.calendar;
+    let windows = c.windows;
+    if windows.len != 0 {
         return false;
     }
-    bookings_blank(t)
+    let blocks = c.blocks;
+    if blocks.len != 0 {
+        return false;
+    }
+    let mut d = t;
+    d.capacity = 1;
+    timeline::is_valid(d)
 }
 
 fn last_blank(last: LastCategory) -> bool

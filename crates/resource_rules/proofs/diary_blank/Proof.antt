@@ -1,10 +1,30 @@
--- `resource_rules::diary_blank` meets its contract.
+-- `resource_rules::diary_blank` meets its contract: without bookings a diary keeps the rules if its calendar does and its cells are empty.
 use borrow.Author.Needs.{needs}
-use borrow.Author.Tests.{not-true, not-false, eq-eqb, ne-eqb}
-use mathlib.Core.Path.{refl, sym, _∙_}
-use Rattle.board.specs.Valid.{diaryBlank}
+use borrow.Author.Tests.{eq-eqb, ne-eqb}
+use mathlib.Core.Path.{_≡_, refl, _∙_}
+use mathlib.Core.Bool.{Bool, true, _&&_}
+use Prim.Native.Nat.{ℕ}
+use Rattle.calendar.specs.Basics.{and-true}
+use Rattle.calendar.specs.Every.{everyFrom}
+use Rattle.calendar.specs.Valid as calendar
+use Rattle.timeline.specs.declared.ResourceTimeline.{ResourceTimeline}
+use Rattle.timeline.specs.Bookings.{bookingsTo, total}
+use Rattle.timeline.specs.Valid.{emptyAt, valid}
+use Rattle.board.specs.Valid.{calendarBlank, diaryBlank}
 use Rattle.resource_rules.proofs.diary_blank.Statement.{statement}
 use Rattle.resource_rules.proofs.diary_blank.Tie as tie
+
+-- the diary with a capacity of 1
+abbrev one : ResourceTimeline → ResourceTimeline
+one t = record { capacity = 1; calendar = t .calendar; starts = t .starts; ends = t .ends; units = t .units; latest = t .latest; len = t .len; booked = t .booked }
+
+none : (P : ℕ → Bool) → everyFrom P 0 0 ≡ true
+unfolding everyFrom
+none P = refl
+
+without-bookings : (t : ResourceTimeline) → t .len ≡ 0 → t .booked ≡ 0 → valid (one t) ≡ calendar.valid (t .calendar) && everyFrom (emptyAt t) 0 64
+unfolding valid bookingsTo total
+without-bookings t l b = rw (l, b, none _, and-true (everyFrom (emptyAt t) 0 64)) refl
 
 returns : tie.Need-returns
 unfolding diaryBlank
@@ -18,25 +38,29 @@ returns-3 : tie.Need-returns-3
 unfolding diaryBlank
 returns-3 c = simp (eq-eqb _ _ (c .before .before .before .before .if1 .left), eq-eqb _ _ (c .before .before .if2 .left), ne-eqb _ _ (c .if3 .taken))
 
-calendar-blank-requires : tie.Need-calendar-blank-requires
-calendar-blank-requires c κs = search needs
-
 returns-4 : tie.Need-returns-4
-unfolding diaryBlank
+unfolding diaryBlank calendarBlank
 returns-4 c =
-    let e = sym (c .before .calendar-blank .ensures) ∙ not-true _ (c .if4 .taken) in
-    rw (eq-eqb _ _ (c .before .before .before .before .before .before .if1 .left), eq-eqb _ _ (c .before .before .before .before .if2 .left), eq-eqb _ _ (c .before .before .if3 .left), e) refl
-
-bookings-blank-requires : tie.Need-bookings-blank-requires
-bookings-blank-requires c κs = search needs
+    simp
+    (eq-eqb _ _ (c .before .before .before .before .before .before .before .before .if1 .left), eq-eqb _ _ (c .before .before .before .before .before .before .if2 .left), eq-eqb _ _ (c .before .before .before .before .if3 .left), ne-eqb _ _ (c .if4 .taken))
 
 returns-5 : tie.Need-returns-5
-unfolding diaryBlank
+unfolding diaryBlank calendarBlank
 returns-5 c =
-    let e = sym (c .before .before .calendar-blank .ensures) ∙ not-false _ (c .before .if4 .left) in
-    rw (eq-eqb _ _ (c .before .before .before .before .before .before .before .if1 .left), eq-eqb _ _ (c .before .before .before .before .before .if2 .left), eq-eqb _ _ (c .before .before .before .if3 .left), e) (c .bookings-blank .ensures)
+    simp
+    (eq-eqb _ _ (c .before .before .before .before .before .before .before .before .before .before .before .if1 .left), eq-eqb _ _ (c .before .before .before .before .before .before .before .before .before .if2 .left), eq-eqb _ _ (c .before .before .before .before .before .before .before .if3 .left), eq-eqb _ _ (c .before .before .before .if4 .left), ne-eqb _ _ (c .if5 .taken))
+
+is-valid-requires : tie.Need-is-valid-requires
+is-valid-requires c κs = search needs
+
+returns-6 : tie.Need-returns-6
+unfolding diaryBlank calendarBlank
+returns-6 c =
+    let t = c .before .before .before .before .before .before .before .before .before .before .before .before .before .before .args .t in
+    rw (eq-eqb _ _ (c .before .before .before .before .before .before .before .before .before .before .before .before .if1 .left), eq-eqb _ _ (c .before .before .before .before .before .before .before .before .before .before .if2 .left), eq-eqb _ _ (c .before .before .before .before .before .before .before .before .if3 .left), eq-eqb _ _ (c .before .before .before .before .if4 .left), eq-eqb _ _ (c .before .if5 .left))
+    (c .is-valid .ensures ∙ without-bookings t (c .before .before .before .before .before .before .before .before .before .before .if2 .left) (c .before .before .before .before .before .before .before .before .if3 .left))
 
 pub diary-blank-spec : {M : Type 1} → statement M
 diary-blank-spec =
     tie.close
-    (tie.spec returns returns-2 returns-3 calendar-blank-requires returns-4 bookings-blank-requires returns-5)
+    (tie.spec returns returns-2 returns-3 returns-4 returns-5 is-valid-requires returns-6)
