@@ -2,7 +2,8 @@
 use mathlib.Core.Path.{_≡_}
 use mathlib.Core.Bool.{true}
 use mathlib.Core.List.{List}
-use Prim.Native.Nat.{ℕ, _^_, _≤_}
+use Prim.Native.Nat.{ℕ, _≤_}
+use Rattle.calendar.specs.Limits.{longestDuration}
 use Rattle.activity.specs.declared.ActivityDuration.{ActivityDuration}
 use Rattle.activity.specs.declared.ResourceTiming.{ResourceTiming}
 use Rattle.activity.specs.declared.ResourceTiming.the-variants.{Nothing, Speed, Duration}
@@ -14,9 +15,9 @@ use Rattle.activity.specs.Durations.{timingOf, Leading, nobody, owned}
 
 -- each of the three is at most 2 ^ 36
 pub record Short (d : ActivityDuration) : Type 0 where
-  pub setup-range : d .setup ≤ 2 ^ 36
-  pub process-range : d .process ≤ 2 ^ 36
-  pub teardown-range : d .teardown ≤ 2 ^ 36
+  pub setup-range : d .setup ≤ longestDuration
+  pub process-range : d .process ≤ longestDuration
+  pub teardown-range : d .teardown ≤ longestDuration
 
 abbrev pub LawfulTiming : ResourceTiming → Type 0
 LawfulTiming Nothing = Unit

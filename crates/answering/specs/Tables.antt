@@ -1,10 +1,11 @@
 -- What each resource answers to each requirement, as the code keeps it.
-use Prim.Native.Nat.{ℕ, _+_, _*_, _^_, _≤_, _<_}
+use Prim.Native.Nat.{ℕ, _+_, _*_, _≤_, _<_}
 use mathlib.Core.Path.{_≡_}
 use mathlib.Core.Bool.{Bool, true, _&&_, _||_}
 use mathlib.Core.List.{List}
 use lib.ListN.{getD, length}
 use lib.Dec.{ltb}
+use Rattle.calendar.specs.Limits.{lastAsked, never}
 use Rattle.calendar.specs.Search.{Found, nothing, at}
 use Rattle.activity.specs.declared.ResourceRequirement.{ResourceRequirement}
 use Rattle.activity.specs.declared.Activity.{Activity}
@@ -22,7 +23,7 @@ foundAt b a ready q t i = served b a ready q (resourceAt b i) t
 
 -- a start as a number, 2^63 for none
 unfoldable pub numberOf : Found → ℕ
-numberOf nothing = 2 ^ 63
+numberOf nothing = never
 numberOf (at s) = s
 
 abbrev pub requirementAt : Activity → ℕ → ResourceRequirement
@@ -48,5 +49,5 @@ pub record Answered (b : Board) (a : Activity) (ready t len : ℕ) (plans : List
   pub accepted : activityRefusal a ready ≡ 0
   pub all : len ≡ b .len
   pub planned : Planned b a ready (b .len) plans
-  pub soon : t ≤ 2 ^ 43
+  pub soon : t ≤ lastAsked
   pub so : (j i : ℕ) → j < a .len → i < b .len → getD starts (16 * j + i) 0 ≡ startFor b a ready t j i

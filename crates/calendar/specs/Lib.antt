@@ -1,5 +1,6 @@
--- The limits of document 01, what a refusal is, sets, the least instant, and 'each' with its laws; then document 01, 'Calendar' and the replies of
--- 'Window or block', in its order; then laws of spans, what the definitions amount to, and runs of them.
+-- The limits of document 01, what a refusal is, sets, the least instant, 'each' with its laws, and cells that rise; then document 01,
+-- 'Calendar' and the replies of 'Window or block', in its order; then laws of spans, of the search and of work ends, what the definitions
+-- amount to, laws of one millisecond earlier, and runs.
 pub mod Limits
 pub mod Refusals
 pub mod Sets

@@ -23,7 +23,7 @@ endFrom W p (suc w) zero = nothing
 endFrom W p (suc w) (suc n) = elim (W p) [ true ↦ endFrom W (suc p) w n | false ↦ endFrom W (suc p) (suc w) n ]
 
 -- nothing from a start in a pause, or with too little time left. From `last` on W changes no more, so that no end lies beyond the
--- milliseconds tried (Meaning.antt: which `last` is given makes no difference)
+-- milliseconds tried (WorkEnds.antt, `work-end-same`: which `last` is given makes no difference)
 unfoldable pub workEnd : ℕ → (ℕ → Bool) → ℕ → ℕ → Found
 workEnd last W p w = elim (W p) [ true ↦ endFrom W p w (last - p + w) | false ↦ nothing ]
 

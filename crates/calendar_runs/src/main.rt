@@ -8,6 +8,7 @@ use joint::WorkEnd;
 ghost use mathlib.Core.Path.{_≡_};
 ghost use mathlib.Core.Bool.{true};
 ghost use Prim.Native.Nat.{_+_, _*_, _^_, _≤_, _<_};
+ghost use Rattle.calendar.specs.Limits.{lastAsked, longestSpan};
 ghost use Rattle.work_ends.specs.Layout.{Edges};
 ghost use Rattle.joint.specs.Layout.{Ruled};
 
@@ -152,7 +153,7 @@ fn all_valid(cs: [Calendar; 25], n: usize) -> bool
 }
 
 fn end_over(j: JointTime, start: u64, work: u64) -> WorkEnd
-    requires { ⌜ (j .len ≤ 3201) × Edges (j .edges) (j .len) × (start ≤ 2 ^ 43) × (work ≤ 2 ^ 53) ⌝ }
+    requires { ⌜ (j .len ≤ 3201) × Edges (j .edges) (j .len) × (start ≤ lastAsked) × (work ≤ longestSpan) ⌝ }
 {
     let len = j.len;
     joint::work_end(&j.edges, len, start, work)
@@ -202,7 +203,7 @@ fn end_or_zero(end: WorkEnd) -> u64 {
 
 // One round of the measurement: a layout, and 100 ends of work over it.
 fn round(cs: [Calendar; 25], n: usize, from: u64, step: u64, work: u64) -> u64
-    requires { ⌜ (n ≤ 25) × Ruled cs n × (from + 99 * step ≤ 2 ^ 43) × (work ≤ 2 ^ 53) ⌝ }
+    requires { ⌜ (n ≤ 25) × Ruled cs n × (from + 99 * step ≤ lastAsked) × (work ≤ longestSpan) ⌝ }
 {
     let j = joint::joint_time(cs, n, from);
     let len = j.len;
@@ -219,7 +220,7 @@ fn round(cs: [Calendar; 25], n: usize, from: u64, step: u64, work: u64) -> u64
 
 // Kind 38: so many rounds, the layout of each a millisecond later.
 fn measure(cs: [Calendar; 25], n: usize, rounds: u64, from: u64, step: u64, work: u64) -> u64
-    requires { ⌜ (n ≤ 25) × Ruled cs n × (from + rounds + 99 * step ≤ 2 ^ 43 + 1) × (work ≤ 2 ^ 53) ⌝ }
+    requires { ⌜ (n ≤ 25) × Ruled cs n × (from + rounds + 99 * step ≤ lastAsked + 1) × (work ≤ longestSpan) ⌝ }
 {
     let mut sum: u64 = 0;
     let mut r: u64 = 0;

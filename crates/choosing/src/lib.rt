@@ -6,7 +6,8 @@ use earliest::Start;
 use rounds::Choice;
 ghost use mathlib.Core.Path.{_≡_};
 ghost use mathlib.Core.Bool.{true};
-ghost use Prim.Native.Nat.{_^_, _≤_};
+ghost use Prim.Native.Nat.{_≤_};
+ghost use Rattle.calendar.specs.Limits.{lastAsked};
 ghost use Rattle.activity.specs.Check.{activityRefusal};
 ghost use Rattle.board.specs.Valid.{valid};
 ghost use Rattle.scheduler.specs.Choosing.{choosing};
@@ -17,7 +18,7 @@ ghost use Rattle.rounds.specs.Rounds.{choiceOf, Chosen};
 // asked where it is not known, with their companions one after another. The board is read here alone.
 pub fn choose(b: Board, a: Activity, ready: u64, places: [usize; 16]) -> Choice
     requires { ⌜ (valid b ≡ true) × (activityRefusal a ready ≡ 0) × (1 ≤ a .len) × Known b places ⌝ }
-    ensures { λ r. ⌜ (choiceOf b r ≡ choosing b a ready) × (r .instant ≤ 2 ^ 43) × (r .chosen ≡ true → Chosen b a ready r) ⌝ }
+    ensures { λ r. ⌜ (choiceOf b r ≡ choosing b a ready) × (r .instant ≤ lastAsked) × (r .chosen ≡ true → Chosen b a ready r) ⌝ }
 {
     let mut plans = plans::no_plans();
     let mut asked: [u64; 64] = [1; 64];

@@ -29,6 +29,10 @@ pub lines-rows : (n : ℕ) (slate : List (List ℕ)) → linesOf n slate ≡ map
 unfolding linesOf
 lines-rows n slate = refl
 
+-- a row names a number that has a place, and the diary there holds at most 64 bookings
+abbrev pub RowPlace : List ℕ → List ℕ → List ℕ → Type 0
+RowPlace places lens row = (getD row 0 0 < 16) × (getD places (getD row 0 0) 0 < 16) × (getD lens (getD places (getD row 0 0) 0) 0 ≤ 64)
+
 -- one row
 module _ (places row : List ℕ) where
   pub number-high : 16 ≤ getD row 0 0 → numbered places row ≡ false

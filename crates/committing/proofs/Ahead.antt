@@ -10,7 +10,7 @@ use lib.Seq.{drop-cons}
 use borrow.Author.Tests.{lt-leb, le-ltb, eq-eqb}
 use Rattle.calendar.specs.Search.{at}
 use Rattle.timeline.specs.declared.ResourceTimeline.{ResourceTimeline}
-use Rattle.timeline.specs.Book.{bookRefusal, taken, bookReply}
+use Rattle.timeline.specs.Book.{bookRefusal, taken, bookReply, withBooking}
 use Rattle.timeline.specs.Valid as timeline
 use Rattle.board.specs.declared.LastCategory.{LastCategory}
 use Rattle.board.specs.declared.LastCategory.the-variants.{Category}
@@ -23,7 +23,7 @@ use Rattle.board.specs.Enter.{withResource, changed}
 use Rattle.board.proofs.Facts.{rules}
 use Rattle.board.proofs.Meaning.{resource-of}
 use Rattle.scheduler.specs.Alone.{diaryOf}
-use Rattle.scheduler.specs.Committing.{Line, lineOf, linesOf, entriesOn, withBooking, lastAfter, booked, bookAll}
+use Rattle.scheduler.specs.Committing.{Line, lineOf, linesOf, entriesOn, lastAfter, booked, bookAll}
 use Rattle.scheduler.specs.Committed.{Bookable, Right, Room, step-long, lookup-after, after-keeps, right-after, room-after}
 use Rattle.scheduler.specs.Lists.{Each, each-weaken, each-first, each-rest}
 use Rattle.scheduler.specs.Ruled.{diary-at}
@@ -33,7 +33,7 @@ use Rattle.seats.proofs.Knowing.{number-place}
 -- a booking that is not refused
 pub book-taken : (t : ResourceTimeline) (start end category u : ℕ) → timeline.valid t ≡ true → t .len < 64 → Bookable start end category → 1 ≤ u → u ≤ 10000
     → bookReply t start end u .timeline ≡ withBooking t start end u
-unfolding bookReply bookRefusal taken withBooking
+unfolding bookReply bookRefusal taken
 book-taken t start end category u v room w some few =
     let s : ltb (2 ^ 42) start ≡ false = le-ltb (2 ^ 42) start (omega (arith, w .order, w .range)) in
     let e : ltb (2 ^ 42) end ≡ false = le-ltb (2 ^ 42) end (w .range) in
@@ -104,6 +104,10 @@ pub record Here (b : Board) (number place units : ℕ) : Type 0 where
   pub some : 1 ≤ units
   pub few : units ≤ 10000
 
+-- the same of a row of the slate
+abbrev pub RowHere : Board → List ℕ → List ℕ → Type 0
+RowHere b places row = Here b (getD row 0 0) (getD places (getD row 0 0) 0) (getD row 2 0)
+
 pub ahead-none : (start end category : ℕ) (places : List ℕ) (whole b : Board) (ls : List Line) → ls ≡ [] → Ahead start end category places whole b ls → b ≡ whole
 unfolding bookAll
 ahead-none start end category places whole b ls e a = sym (ap (λ (ks : List Line). bookAll start end category ks b) e) ∙ a .same
@@ -170,7 +174,7 @@ module _ (start end category : ℕ) (places : List ℕ) (whole b : Board) (slate
   left : Ahead start end category places whole b (lineOf row ∷ linesOf (count - (i + 1)) (drop (i + 1) slate))
   left = subst (Ahead start end category places whole b) (lines-left slate i count l m) a
 
-  pub row-here : Here b (getD row 0 0) at-row (getD row 2 0)
+  pub row-here : RowHere b places row
   unfolding lineOf
   row-here = ahead-here start end category places whole b (lineOf row) (linesOf (count - (i + 1)) (drop (i + 1) slate)) left
 

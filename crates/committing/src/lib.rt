@@ -9,6 +9,7 @@ ghost use mathlib.Core.Path.{_≡_};
 ghost use mathlib.Core.Bool.{true};
 ghost use Prim.Native.Nat.{ℕ, _≤_, _<_};
 ghost use lib.ListN.{getD};
+ghost use Rattle.calendar.specs.Limits.{mostUnits};
 ghost use Rattle.timeline.specs.Valid as timeline;
 ghost use Rattle.board.specs.declared.Board as declared;
 ghost use Rattle.board.specs.Valid.{valid};
@@ -18,7 +19,7 @@ ghost use Rattle.board.specs.Places.{Known, Lengths};
 
 // The resource with a booking more; one with a matrix takes the category, unless it is a companion.
 fn book_on(r: Resource, start: u64, end: u64, category: u8, units: u32, companion: bool) -> Resource
-    requires { ⌜ (timeline.valid (r .timeline) ≡ true) × (r .timeline .len < 64) × Bookable start end category × (1 ≤ units) × (units ≤ 10000) ⌝ }
+    requires { ⌜ (timeline.valid (r .timeline) ≡ true) × (r .timeline .len < 64) × Bookable start end category × (1 ≤ units) × (units ≤ mostUnits) ⌝ }
     ensures { λ x. ⌜ x ≡ booked start end category (record { number = r .number; units = units; companion = companion }) r ⌝ }
 {
     let t = r.timeline;

@@ -10,8 +10,9 @@ use scheduler::Entry;
 use scheduler::Selection;
 ghost use mathlib.Core.Path.{_≡_};
 ghost use mathlib.Core.List.{_++_};
-ghost use Prim.Native.Nat.{ℕ, _+_, _^_, _≤_, _<_};
+ghost use Prim.Native.Nat.{ℕ, _+_, _≤_, _<_};
 ghost use lib.ListN.{length, getD, take};
+ghost use Rattle.calendar.specs.Limits.{longestSpan};
 ghost use Rattle.activity.specs.declared.Activity as ordered;
 ghost use Rattle.activity.specs.Lawful.{Lawful};
 ghost use Rattle.board.specs.declared.Board as declared;
@@ -129,7 +130,7 @@ fn greatest_setup(e: Entries) -> u64
 // The entries of those held and their companions, and the span: the greatest setup among those held, process and teardown.
 pub fn entries_of(plans: [Plan; 16], a: Activity, held: [Selection; 8], count: usize) -> Together
     requires { ⌜ Lawful (a .duration) (a .timings) × (a .category ≤ 15) × (count ≤ 8) × ((b : declared.Board) × (ready : ℕ) × Taken b a ready plans held count) ⌝ }
-    ensures { λ r. ⌜ (r .entries .count ≤ 24) × (length (r .entries .entries) ≡ 24) × (r .span ≤ 2 ^ 53) ⌝ }
+    ensures { λ r. ⌜ (r .entries .count ≤ 24) × (length (r .entries .entries) ≡ 24) × (r .span ≤ longestSpan) ⌝ }
     ensures { λ r. ⌜ ((b : declared.Board) (ready : ℕ) → Taken b a ready plans held count → (take (r .entries .count) (r .entries .entries) ≡ entriesOf a (heldTo b held count)) × (r .span ≡ spanTogether a (heldTo b held count))) ⌝ }
 {
     let p = parts_of(plans, held, count);

@@ -7,8 +7,9 @@ use entries::Entries;
 use timeline::ResourceTimeline;
 ghost use mathlib.Core.Path.{_≡_};
 ghost use mathlib.Core.Bool.{true, false};
-ghost use Prim.Native.Nat.{_^_, _≤_};
+ghost use Prim.Native.Nat.{_≤_};
 ghost use lib.ListN.{take};
+ghost use Rattle.calendar.specs.Limits.{lastAsked, longestSpan};
 ghost use Rattle.calendar.specs.Valid as calendar;
 ghost use Rattle.board.specs.Valid.{valid};
 ghost use Rattle.scheduler.specs.Fitting.{sharesOf};
@@ -40,7 +41,7 @@ pub fn fit_unbroken(
     span: u64,
     from: u64,
 ) -> Fit
-    requires { ⌜ (valid b ≡ true) × Known b places × (calendar.valid own ≡ true) × EntriesOn b (e .entries) (e .count) × (from ≤ 2 ^ 43) × (span ≤ 2 ^ 53) ⌝ }
+    requires { ⌜ (valid b ≡ true) × Known b places × (calendar.valid own ≡ true) × EntriesOn b (e .entries) (e .count) × (from ≤ lastAsked) × (span ≤ longestSpan) ⌝ }
     ensures { λ r. ⌜ fitOf r ≡ closing false (sharesOf b (take (e .count) (e .entries))) own span from ⌝ }
 {
     let first = own_timeline(own);

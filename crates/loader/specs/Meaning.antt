@@ -3,11 +3,12 @@
 use mathlib.Core.Path.{_≡_, refl, sym, ap, subst, _∙_}
 use mathlib.Core.Bool.{Bool, true, false, not}
 use mathlib.Core.List.{List, [], _∷_, _++_, map, append-assoc, append-nil}
-use Prim.Native.Nat.{ℕ, zero, suc, _+_, _^_, _≤_, _<_}
+use Prim.Native.Nat.{ℕ, zero, suc, _+_, _≤_, _<_}
 use native.Mathlib.Omega.{arith}
 use lib.Dec.{eqb}
 use lib.ListN.{length, length-set, length-append, length-map}
 use borrow.Author.Tests.{eqb-true, eqb-false, eq-eqb, ne-eqb}
+use Rattle.calendar.specs.Limits.{lastInstant}
 use Rattle.calendar.specs.declared.TimeWindows.{TimeWindows}
 use Rattle.calendar.specs.declared.Calendar.{Calendar}
 use Rattle.calendar.specs.declared.Added.{Added}
@@ -30,7 +31,7 @@ spanOf w = record { start = w .start; end = w .end }
 
 -- a record that no window or block before it could make bad: two instants, the end after the start
 abbrev pub Good : TimeWindow → Type 0
-Good w = (w .end ≤ 2 ^ 42) × (w .start < w .end)
+Good w = (w .end ≤ lastInstant) × (w .start < w .end)
 
 abbrev pub AllGood : List TimeWindow → Type 0
 AllGood [] = Unit {0}
@@ -96,7 +97,7 @@ one-taken c block w e = taken c (listOf block c .len) (w .start) (w .end) (sym (
 
 one-good : (c : Calendar) (block : Bool) (w : TimeWindow) → valid c ≡ true → Good w → listOf block c .len < 32 → addOne c block w .refusal ≡ 0
 one-good c block w v g l =
-    let a : w .start ≤ 2 ^ 42 = omega (arith, g .0, g .1) in
+    let a : w .start ≤ lastInstant = omega (arith, g .0, g .1) in
     one-number c block w ∙ sym (refuse-none c (listOf block c .len) (w .start) (w .end) v a (g .0) (g .1) l)
 
 -- ---- the calendar with one record more
@@ -273,7 +274,7 @@ run-33rd c block ws w vs h v g good full =
     let taken = run-accepted c block ws h e in
     let whole : addRun c block ws ≡ reply 0 m = ap (λ (n : ℕ). reply n m) e in
     let many : listOf block m .len ≡ 32 = accepted-len c block ws m taken ∙ full in
-    let a : w .start ≤ 2 ^ 42 = omega (arith, good .0, good .1) in
+    let a : w .start ≤ lastInstant = omega (arith, good .0, good .1) in
     let four : addOne m block w .refusal ≡ 4 = one-number m block w ∙ sym (refuse-4 m (listOf block m .len) (w .start) (w .end) (taken .ruled) a (good .0) (good .1) (omega (arith, many))) in
     run-first c block m ws w vs whole (λ z. absurd (omega (arith, four, z))) ∙ ap (λ (n : ℕ). reply n c) four
   where

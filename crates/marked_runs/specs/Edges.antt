@@ -6,6 +6,7 @@ use lib.IntN.{pos, negsuc}
 use Rattle.calendar.specs.Every.{everyFrom}
 use Rattle.calendar.specs.Valid as calendar
 use Rattle.calendar.specs.Add.{empty}
+use Rattle.calendar.specs.Cells.{before}
 use Rattle.timeline.specs.declared.ResourceTimeline.{ResourceTimeline}
 use Rattle.timeline.specs.Bookings.{bookingsTo, total}
 use Rattle.timeline.specs.Valid as timeline
@@ -35,5 +36,5 @@ three = record {
 pub booked :
     (bookReply (bookReply (bookReply free1 5 9 1 .timeline) 5 7 2 .timeline) 0 3 1 ∷ bookReply three 8 8 1 ∷ [])
     ≡ record { refusal = 0; timeline = three } ∷ record { refusal = 2; timeline = three } ∷ []
-unfolding calendar.cellRight everyFrom calendar.spansRight calendar.valid empty bookingsTo total timeline.before timeline.cellRight timeline.cellEmpty timeline.valid insertBooking latestEnds diary bookRefusal taken bookReply
+unfolding calendar.cellRight everyFrom calendar.spansRight calendar.valid empty bookingsTo total before timeline.cellRight timeline.cellEmpty timeline.valid insertBooking latestEnds diary bookRefusal taken bookReply
 booked = refl

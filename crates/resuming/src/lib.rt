@@ -10,8 +10,9 @@ use timeline::ResourceTimeline;
 ghost use mathlib.Core.Path.{_≡_};
 ghost use mathlib.Core.Bool.{true, false, _&&_, cond};
 ghost use mathlib.Core.Logic.{_⊎_};
-ghost use Prim.Native.Nat.{ℕ, suc, _^_, _≤_, _<_};
+ghost use Prim.Native.Nat.{ℕ, suc, _≤_, _<_};
 ghost use lib.ListN.{length, take};
+ghost use Rattle.calendar.specs.Limits.{lastAsked, longestSpan, never};
 ghost use Rattle.calendar.specs.Search.{nothing, at};
 ghost use Rattle.calendar.specs.Valid as calendar;
 ghost use Rattle.calendar.specs.Work.{workEnd};
@@ -51,8 +52,8 @@ fn untried(x: u64) -> Trial
 
 // An instant with no diary asked yet; 2^63 has no end.
 fn begun(edges: &[u64], len: usize, x: u64, work: u64) -> Trial
-    requires { ⌜ (len ≤ 3201) × (len ≤ length (now edges)) × (work ≤ 2 ^ 53) × Edges (now edges) len ⌝ }
-    ensures { λ r. ⌜ (r .at ≡ x) × (r .next ≡ 2 ^ 63) × (r .laid ≡ true) × (x < 2 ^ 63 → cond (r .free) (at (r .end)) nothing ≡ workEnd (before (now (edges .entry)) len) (laid (now (edges .entry)) len) x work) ⌝ }
+    requires { ⌜ (len ≤ 3201) × (len ≤ length (now edges)) × (work ≤ longestSpan) × Edges (now edges) len ⌝ }
+    ensures { λ r. ⌜ (r .at ≡ x) × (r .next ≡ never) × (r .laid ≡ true) × (x < never → cond (r .free) (at (r .end)) nothing ≡ workEnd (before (now (edges .entry)) len) (laid (now (edges .entry)) len) x work) ⌝ }
 {
     let mut t = untried(x);
     t.next = NEVER;
@@ -69,7 +70,7 @@ fn begun(edges: &[u64], len: usize, x: u64, work: u64) -> Trial
 
 // One diary more asked.
 fn asked(d: ResourceTimeline, units: u32, t: Trial) -> Trial
-    requires { ⌜ (timeline.valid d ≡ true) × (t .at < t .next) × (t .next ≤ 2 ^ 63) ⌝ }
+    requires { ⌜ (timeline.valid d ≡ true) × (t .at < t .next) × (t .next ≤ never) ⌝ }
     ensures { λ r. ⌜ (r .at ≡ t .at) × (r .end ≡ t .end) × (r .laid ≡ t .laid) × (r .free ≡ t .free && freeOn d units (t .at) (t .end)) ⌝ }
     ensures { λ r. ⌜ (t .at < r .next) × (r .next ≤ t .next) × ((y : ℕ) → t .at ≤ y → suc y < r .next → Still d (suc y)) × ((r .next ≡ t .next) ⊎ Event d (r .next)) ⌝ }
 {
@@ -93,7 +94,7 @@ pub fn fit_resumable(
     work: u64,
     from: u64,
 ) -> Fit
-    requires { ⌜ (valid b ≡ true) × Known b places × (calendar.valid own ≡ true) × EntriesOn b (e .entries) (e .count) × (from ≤ 2 ^ 43) × (work ≤ 2 ^ 53) ⌝ }
+    requires { ⌜ (valid b ≡ true) × Known b places × (calendar.valid own ≡ true) × EntriesOn b (e .entries) (e .count) × (from ≤ lastAsked) × (work ≤ longestSpan) ⌝ }
     ensures { λ r. ⌜ fitOf r ≡ closing true (sharesOf b (take (e .count) (e .entries))) own work from ⌝ }
 {
     let first = fitting::own_timeline(own);

@@ -1,9 +1,10 @@
 -- A round as the code goes through it, place by place, and the rounds so far.
-use Prim.Native.Nat.{ℕ, zero, suc, _^_, _≤_, _<_}
+use Prim.Native.Nat.{ℕ, zero, suc, _≤_, _<_}
 use mathlib.Core.Path.{_≡_}
 use mathlib.Core.Bool.{true, false, cond}
 use mathlib.Core.List.{List, [], _++_}
 use lib.ListN.{take, replicate}
+use Rattle.calendar.specs.Limits.{lastAsked}
 use Rattle.activity.specs.declared.ResourceRequirement.{ResourceRequirement}
 use Rattle.activity.specs.declared.Activity.{Activity}
 use Rattle.board.specs.declared.Board.{Board}
@@ -37,7 +38,7 @@ answersTo b a ready q t (suc n) = answersTo b a ready q t n ++ answerAt b a read
 -- a candidate stands on the board and starts by 2^43
 pub record Fair (b : Board) (c : Candidate) : Type 0 where
   pub stands : c .place < b .len
-  pub soon : c .start ≤ 2 ^ 43
+  pub soon : c .start ≤ lastAsked
 
 -- the candidates for requirement j from t on
 pub record SortedFor (b : Board) (a : Activity) (ready t j : ℕ) (k : Ranked) : Type 0 where
@@ -48,7 +49,7 @@ pub record SortedFor (b : Board) (a : Activity) (ready t j : ℕ) (k : Ranked) :
 pub record Lasting (b : Board) (h : Selection) : Type 0 where
   pub stands : h .place < b .len
   pub some : 1 ≤ h .usage
-  pub soon : h .start ≤ 2 ^ 43
+  pub soon : h .start ≤ lastAsked
 
 -- the round that the code answers
 unfoldable pub roundOf : Board → Selections → scheduler.Round
@@ -81,6 +82,6 @@ Fewer b a ready t u = above (points b a ready) u < above (points b a ready) t
 -- the rounds so far: they have ended in the choice, or have led to their instant
 pub record Settled (b : Board) (a : Activity) (ready : ℕ) (x : Rounds) : Type 0 where
   pub ends : x .done ≡ true → choiceOf b (x .choice) ≡ scheduler.choosing b a ready
-  pub goes : x .done ≡ false → (x .instant ≤ 2 ^ 43) × Led b a ready (x .instant)
-  pub soon : x .choice .instant ≤ 2 ^ 43
+  pub goes : x .done ≡ false → (x .instant ≤ lastAsked) × Led b a ready (x .instant)
+  pub soon : x .choice .instant ≤ lastAsked
   pub chosen : x .choice .chosen ≡ true → Chosen b a ready (x .choice)

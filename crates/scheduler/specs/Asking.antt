@@ -4,12 +4,13 @@ use mathlib.Core.Path.{_≡_, refl, sym, ap, _∙_, subst}
 use mathlib.Core.Bool.{Bool, true, false}
 use mathlib.Core.List.{List, [], _∷_}
 use mathlib.Core.Logic.{_⊎_, inl, inr, ⊎-elim}
-use Prim.Native.Nat.{ℕ, zero, suc, _+_, _-_, _*_, _^_, _≤_, _<_}
+use Prim.Native.Nat.{ℕ, zero, suc, _+_, _-_, _*_, _≤_, _<_}
 use native.Mathlib.Omega.{arith}
 use lib.ListN.{length, getD, take}
 use lib.Seq.{take-all}
 use lib.Dec.{eqb}
 use borrow.Author.Tests.{eqb-true, eqb-false}
+use Rattle.calendar.specs.Limits.{lastAsked}
 use Rattle.calendar.specs.Every.{every, every-in, every-next}
 use Rattle.calendar.specs.Basics.{no-way, not-both}
 use Rattle.calendar.specs.Search.{Found, nothing, at}
@@ -71,9 +72,9 @@ module _ (resumable : Bool) (span : ℕ) (xs : List Share) where
     pub sought : Sought all from t
     pub fine : those i t ≡ true
     pub most : i ≤ length xs
-    pub range : t ≤ 2 ^ 43
+    pub range : t ≤ lastAsked
 
-  pub asked-start : (from : ℕ) → from ≤ 2 ^ 43 → Asked from from 0
+  pub asked-start : (from : ℕ) → from ≤ lastAsked → Asked from from 0
   unfolding allStart every
   asked-start from r = record { sought = sought-start all from; fine = refl; most = omega arith; range = r }
 

@@ -3,12 +3,13 @@ use mathlib.Core.Path.{_≡_, refl, sym, ap, _∙_, subst}
 use mathlib.Core.Bool.{Bool, true, false, not, _&&_, _||_, cond}
 use mathlib.Core.List.{List, [], _∷_}
 use mathlib.Core.Logic.{⊎-elim}
-use Prim.Native.Nat.{ℕ, zero, suc, _+_, _^_, _≤_, _<_}
+use Prim.Native.Nat.{ℕ, zero, suc, _+_, _≤_, _<_}
 use native.Mathlib.Omega.{arith}
 use lib.ListN.{length, length-set}
 use lib.Dec.{leb, ltb, eqb}
 use lib.Seq.{getD-set-same, getD-set-other}
 use borrow.Author.Tests.{leb-true, ltb-false, leb-false, le-leb, eqb-true, eqb-false, eq-eqb, not-true, not-false}
+use Rattle.calendar.specs.Limits.{lastInstant, mostUnits}
 use Rattle.calendar.specs.Basics.{and-split, and-join, lt-or-ge, same-or-not, unrefused}
 use Rattle.calendar.specs.Search.{Found, nothing, at, when}
 use Rattle.timeline.specs.declared.ResourceTimeline.{ResourceTimeline}
@@ -30,7 +31,8 @@ use Rattle.board.proofs.Keeping.{lookup-same, valid-with}
 use Rattle.scheduler.specs.Alone.{resourceIn, diaryOf}
 use Rattle.scheduler.specs.Alike.{AlikeDiary}
 use Rattle.scheduler.specs.AlikeDiaries.{same-alike}
-use Rattle.scheduler.specs.Committing.{Line, entriesOn, linesOf, linesRefusal, commitRefusal, withBooking, lastAfter, booked, bookAll, commitReply}
+use Rattle.timeline.specs.Book.{withBooking}
+use Rattle.scheduler.specs.Committing.{Line, entriesOn, linesOf, linesRefusal, commitRefusal, lastAfter, booked, bookAll, commitReply}
 use Rattle.scheduler.specs.Lists.{Each, each-end, each-on, each-weaken}
 use Rattle.scheduler.specs.Ruled.{on-place, on-valid}
 use Rattle.scheduler.specs.Tests.{or-left, or-right}
@@ -140,7 +142,7 @@ framed-on r s t p q = record {
 
 module _ (start end category : ℕ) where
   booked-framed : (l : Line) (r : Resource) → Framed r (booked start end category l r)
-  unfolding booked withBooking diary
+  unfolding booked diary
   booked-framed l r =
       let x : Booking = record { start = start; end = end; units = l .units } in
       let t = r .timeline in
@@ -213,20 +215,20 @@ module _ (start end category : ℕ) where
 
 -- a booking makes a diary longer by one
 longer : (t : ResourceTimeline) (start end u : ℕ) → withBooking t start end u .len ≡ t .len + 1
-unfolding withBooking diary
+unfolding diary
 longer t start end u = omega (arith, length-inserted (record { start = start; end = end; units = u }) (bookings t), count t)
 
 -- what is booked is in range
 pub record Bookable (start end category : ℕ) : Type 0 where
   pub order : start < end
-  pub range : end ≤ 2 ^ 42
+  pub range : end ≤ lastInstant
   pub category-range : category ≤ 15
 
 -- an entry for a resource on the board, with units in range
 pub record Right (b : Board) (l : Line) : Type 0 where
   pub on : onBoard b (l .number) ≡ true
   pub some : 1 ≤ l .units
-  pub few : l .units ≤ 10000
+  pub few : l .units ≤ mostUnits
 
 -- every diary has places for all its entries
 abbrev pub Room : Board → List Line → Type 0
@@ -241,8 +243,8 @@ last-right r companion category l h = go (r .matrix .present && not companion)
     go false = h
 
 module _ (start end category : ℕ) (w : Bookable start end category) where
-  booked-right : (l : Line) (r : Resource) → 1 ≤ l .units → l .units ≤ 10000 → board.resourceRight r ≡ true → r .timeline .len < 64 → board.resourceRight (booked start end category l r) ≡ true
-  unfolding booked board.resourceRight withBooking
+  booked-right : (l : Line) (r : Resource) → 1 ≤ l .units → l .units ≤ mostUnits → board.resourceRight r ≡ true → r .timeline .len < 64 → board.resourceRight (booked start end category l r) ≡ true
+  unfolding booked board.resourceRight
   booked-right l r some few h room =
       let k = resource-rules r h in
       let t = booked-keeps (r .timeline) (record { start = start; end = end; units = l .units }) (k .timeline) room (record { order = w .order; range = w .range; some = some; few = few; sorted = omega arith }) in
@@ -319,7 +321,7 @@ abbrev pub allOn : Board → List Line → Bool
 allOn b ls = every (λ l. onBoard b (l .number)) ls
 
 abbrev pub allMetered : List Line → Bool
-allMetered ls = every (λ l. leb 1 (l .units) && leb (l .units) 10000) ls
+allMetered ls = every (λ l. leb 1 (l .units) && leb (l .units) mostUnits) ls
 
 abbrev pub allRoomy : Board → List Line → Bool
 allRoomy b ls = every (λ l. leb (diaryOf b (l .number) .len + entriesOn (l .number) ls) 64) ls
@@ -330,9 +332,9 @@ unfolding every
 passed b [] e f = each-end
 passed b (l ∷ ls) e f =
     let x = and-split (onBoard b (l .number)) (allOn b ls) e in
-    let y = and-split (leb 1 (l .units) && leb (l .units) 10000) (allMetered ls) f in
-    let z = and-split (leb 1 (l .units)) (leb (l .units) 10000) (y .0) in
-    each-on (record { on = x .0; some = leb-true 1 (l .units) (z .0); few = leb-true (l .units) 10000 (z .1) }) (passed b ls (x .1) (y .1))
+    let y = and-split (leb 1 (l .units) && leb (l .units) mostUnits) (allMetered ls) f in
+    let z = and-split (leb 1 (l .units)) (leb (l .units) mostUnits) (y .0) in
+    each-on (record { on = x .0; some = leb-true 1 (l .units) (z .0); few = leb-true (l .units) mostUnits (z .1) }) (passed b ls (x .1) (y .1))
 
 named : (P : ℕ → Bool) (n : ℕ) (ls : List Line) → every (λ l. P (l .number)) ls ≡ true → 1 ≤ entriesOn n ls → P n ≡ true
 unfolding every entriesOn
@@ -357,13 +359,13 @@ pub all-fine : (b : Board) (ls : List Line) (start end category : ℕ) → board
 unfolding linesRefusal
 all-fine b ls start end category v e =
     let x0 = unrefused (not (allOn b ls) || ltb 15 category) 4 _ e in
-    let x1 = unrefused (ltb (2 ^ 42) start || ltb (2 ^ 42) end) 0 _ (x0 .1) in
+    let x1 = unrefused (ltb lastInstant start || ltb lastInstant end) 0 _ (x0 .1) in
     let x2 = unrefused (leb end start) 1 _ (x1 .1) in
     let x3 = unrefused (not (allMetered ls)) 2 _ (x2 .1) in
     let x4 = unrefused (not (allRoomy b ls)) 3 0 (x3 .1) in (
       record {
         order = leb-false end start (x2 .0);
-        range = ltb-false (2 ^ 42) end (or-right (ltb (2 ^ 42) start) (ltb (2 ^ 42) end) (x1 .0));
+        range = ltb-false lastInstant end (or-right (ltb lastInstant start) (ltb lastInstant end) (x1 .0));
         category-range = ltb-false 15 category (or-right (not (allOn b ls)) (ltb 15 category) (x0 .0));
       },
       passed b ls (not-false (allOn b ls) (or-left (not (allOn b ls)) (ltb 15 category) (x0 .0))) (not-false (allMetered ls) (x3 .0)),

@@ -5,9 +5,7 @@ use mathlib.Core.List.{List, [], _∷_, map}
 use lib.ListN.{length, getD, take}
 use lib.Dec.{leb, ltb, eqb}
 use Rattle.calendar.specs.Limits.{lastInstant, mostUnits, mostBookings}
-use Rattle.timeline.specs.declared.ResourceTimeline.{ResourceTimeline}
-use Rattle.timeline.specs.Bookings.{bookings}
-use Rattle.timeline.specs.Diary.{insertBooking, diary}
+use Rattle.timeline.specs.Book.{withBooking}
 use Rattle.calendar.specs.Every.{every}
 use Rattle.board.specs.declared.LastCategory.{LastCategory}
 use Rattle.board.specs.declared.LastCategory.the-variants.{Category}
@@ -53,11 +51,6 @@ commitRefusal b slate count start end category =
     (cond (eqb count 0) 0
     (cond (ltb (length slate) count) 7
     (linesRefusal b (linesOf count slate) start end category)))
-
--- a diary with one booking more
-unfoldable pub withBooking : ResourceTimeline → ℕ → ℕ → ℕ → ResourceTimeline
-withBooking t start end units =
-    diary (t .capacity) (t .calendar) (insertBooking (record { start = start; end = end; units = units }) (bookings t))
 
 -- non-companions with a matrix take the category
 unfoldable pub lastAfter : Resource → Bool → ℕ → LastCategory

@@ -4,9 +4,10 @@ use mathlib.Core.Path.{_≡_, refl, sym, ap, _∙_}
 use mathlib.Core.Bool.{Bool, true, false, _&&_, _||_}
 use mathlib.Core.List.{List, [], _∷_, _++_}
 use mathlib.Core.Logic.{_⊎_, inl, inr, ⊎-elim}
-use Prim.Native.Nat.{ℕ, _*_, _^_, _≤_, _<_, max}
+use Prim.Native.Nat.{ℕ, _*_, _≤_, _<_, max}
 use native.Mathlib.Omega.{arith}
 use lib.ListN.{length, length-append}
+use Rattle.calendar.specs.Limits.{lastInstant}
 use Rattle.calendar.specs.Every.{every}
 use Rattle.calendar.specs.Basics.{and-split, and-join, no-way, not-both, lt-or-ge}
 use Rattle.calendar.specs.Search.{Found, nothing, at}
@@ -34,7 +35,7 @@ start-answers true span x t v = resumable-means (x .timeline) v t span (x .units
 start-answers false span x t v = fit-means (x .timeline) v t span (x .units)
 
 -- a least start lies at the instant asked from, or by 2^42
-pub start-range : (resumable : Bool) (span : ℕ) (x : Share) (t s : ℕ) → valid (x .timeline) ≡ true → Earliest (canStart resumable span x) t s → s ≤ max t (2 ^ 42)
+pub start-range : (resumable : Bool) (span : ℕ) (x : Share) (t s : ℕ) → valid (x .timeline) ≡ true → Earliest (canStart resumable span x) t s → s ≤ max t lastInstant
 start-range resumable span x t s v w =
     let r = rules (x .timeline) v in
     let l = found-within (canStart resumable span x) t (lastEvent (x .timeline)) (λ y m. can-back resumable span x y (last-still (x .timeline) r y m)) s w in
@@ -115,9 +116,9 @@ pub sought-never : (P : ℕ → Bool) (from t : ℕ) → Sought P from t → ((y
 sought-never P from t s f y a = ⊎-elim (λ (m : y < t). s .none y a m) (λ (m : t ≤ y). f y m) (lt-or-ge y t)
 
 -- on diaries that keep the rules nothing changes after 2^42
-pub last-small : (xs : List Share) → Sound xs → lastOf xs ≤ 2 ^ 42
+pub last-small : (xs : List Share) → Sound xs → lastOf xs ≤ lastInstant
 unfolding lastOf
-last-small xs s = greatest-most (λ (x : Share). lastEvent (x .timeline)) noShare xs (2 ^ 42) (λ k l. last-range _ (rules _ (each-at (λ x. valid (x .timeline) ≡ true) noShare xs s k l)))
+last-small xs s = greatest-most (λ (x : Share). lastEvent (x .timeline)) noShare xs lastInstant (λ k l. last-range _ (rules _ (each-at (λ x. valid (x .timeline) ≡ true) noShare xs s k l)))
 
 -- diaries that keep the rules have at most 128 events each
 pub events-count : (xs : List Share) → Sound xs → length (eventsOf xs) ≤ 128 * length xs

@@ -25,9 +25,12 @@ unfoldable pub taken : ℕ → ResourceTimeline → ResourceTimeline → Booked
 taken zero t more = record { refusal = 0; timeline = more }
 taken (suc n) t more = record { refusal = suc n; timeline = t }
 
+-- the diary with one booking more
+abbrev pub withBooking : ResourceTimeline → ℕ → ℕ → ℕ → ResourceTimeline
+withBooking t s e u = diary (t .capacity) (t .calendar) (insertBooking (record { start = s; end = e; units = u }) (bookings t))
+
 unfoldable pub bookReply : ResourceTimeline → ℕ → ℕ → ℕ → Booked
-bookReply t s e u =
-    taken (bookRefusal t s e u) t (diary (t .capacity) (t .calendar) (insertBooking (record { start = s; end = e; units = u }) (bookings t)))
+bookReply t s e u = taken (bookRefusal t s e u) t (withBooking t s e u)
 
 -- the diary with another calendar
 unfoldable pub withCalendar : ResourceTimeline → Calendar → ResourceTimeline

@@ -5,7 +5,8 @@ use joint::WorkEnd;
 use timeline::ResourceTimeline;
 ghost use mathlib.Core.Path.{_≡_};
 ghost use mathlib.Core.Bool.{true};
-ghost use Prim.Native.Nat.{_^_, _≤_, _<_};
+ghost use Prim.Native.Nat.{_≤_, _<_};
+ghost use Rattle.calendar.specs.Limits.{lastAsked, longestSpan, never};
 ghost use Rattle.timeline.specs.Valid.{valid};
 ghost use Rattle.earliest.specs.Steps.{startOf};
 ghost use Rattle.scheduler.specs.Shares.{startOn};
@@ -20,7 +21,7 @@ pub struct Asking {
 
 // The least start on one diary, unbroken or resumable.
 pub fn start_on(t: ResourceTimeline, resumable: bool, span: u64, units: u32, from: u64) -> Start
-    requires { ⌜ (valid t ≡ true) × (from ≤ 2 ^ 43) × (span ≤ 2 ^ 53) × (1 ≤ units) ⌝ }
+    requires { ⌜ (valid t ≡ true) × (from ≤ lastAsked) × (span ≤ longestSpan) × (1 ≤ units) ⌝ }
     ensures { λ r. ⌜ startOf r ≡ startOn resumable span (record { timeline = t; units = units }) from ⌝ }
 {
     if resumable {
@@ -36,7 +37,7 @@ pub fn start_on(t: ResourceTimeline, resumable: bool, span: u64, units: u32, fro
 
 // The diary to ask after the i-th: the next, and the first again where the start has moved on past those in front.
 pub fn next_asked(i: usize, stays: bool) -> usize
-    requires { ⌜ i < 2 ^ 63 ⌝ }
+    requires { ⌜ i < never ⌝ }
     ensures { λ r. ⌜ r ≡ nextAsked i stays ⌝ }
 {
     if i == 0 {
@@ -56,7 +57,7 @@ pub fn unasked() -> Asking
 
 // The i-th of at most five has answered, asked from an instant on. Where it has no start, none of the others is asked: 2^63, and past them.
 pub fn answered(i: usize, from: u64, s: Start) -> Asking
-    requires { ⌜ i < 2 ^ 63 ⌝ }
+    requires { ⌜ i < never ⌝ }
     ensures { λ r. ⌜ r ≡ answeredBy i from (startOf s) ⌝ }
 {
     match s {

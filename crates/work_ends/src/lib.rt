@@ -1,8 +1,9 @@
 // The end of work over working time that is laid out as the rising instants at which it begins and ends (JointTime::work_end in
 // models/calendar.rs; 01, 'Calendar'), and the search by halves in rising instants.
 ghost use mathlib.Core.Path.{_≡_};
-ghost use Prim.Native.Nat.{_^_, _≤_, _<_};
+ghost use Prim.Native.Nat.{_≤_, _<_};
 ghost use lib.ListN.{length};
+ghost use Rattle.calendar.specs.Limits.{never};
 ghost use Rattle.calendar.specs.Work.{workEnd};
 ghost use Rattle.calendar.specs.Cells.{before, Rising};
 ghost use Rattle.work_ends.specs.Layout.{laid, Edges, Before, foundOf};
@@ -32,7 +33,7 @@ pub enum WorkEnd {
 
 // When work that starts at `start` ends: nothing from a pause or with too little time left.
 pub fn work_end(edges: &[u64], len: usize, start: u64, work: u64) -> WorkEnd
-    requires { ⌜ (len ≤ 4096) × (len ≤ length (now edges)) × (start < 2 ^ 63) × (work < 2 ^ 63) ⌝ }
+    requires { ⌜ (len ≤ 4096) × (len ≤ length (now edges)) × (start < never) × (work < never) ⌝ }
     requires { ⌜ Edges (now edges) len ⌝ }
     ensures { λ r. ⌜ foundOf r ≡ workEnd (before (now (edges .entry)) len) (laid (now (edges .entry)) len) start work ⌝ }
 {

@@ -4,7 +4,8 @@ use joint::WorkEnd;
 use timeline::ResourceTimeline;
 ghost use mathlib.Core.Path.{_≡_};
 ghost use mathlib.Core.Bool.{true};
-ghost use Prim.Native.Nat.{_^_, _≤_};
+ghost use Prim.Native.Nat.{_≤_};
+ghost use Rattle.calendar.specs.Limits.{lastAsked, longestSpan};
 ghost use Rattle.timeline.specs.Valid.{valid};
 ghost use Rattle.timeline.specs.Earliest.{earliestResumable};
 ghost use Rattle.timeline.specs.Ask.{resumed};
@@ -18,7 +19,7 @@ pub struct Resumable {
 
 // The candidates tried in rising order, each with the work's end over the edges.
 fn first_resumable(t: ResourceTimeline, from: u64, work: u64, units: u32) -> Resumable
-    requires { ⌜ (valid t ≡ true) × (from ≤ 2 ^ 43) × (work ≤ 2 ^ 53) × (units ≤ t .capacity) ⌝ }
+    requires { ⌜ (valid t ≡ true) × (from ≤ lastAsked) × (work ≤ longestSpan) × (units ≤ t .capacity) ⌝ }
     ensures { λ r. ⌜ resumableOf r ≡ resumed t work (earliestResumable t from work units) ⌝ }
 {
     let starts = t.starts;
@@ -53,7 +54,7 @@ fn first_resumable(t: ResourceTimeline, from: u64, work: u64, units: u32) -> Res
 
 // The least working start at or after `from` where units are free up to the work's end.
 pub fn earliest_resumable(t: ResourceTimeline, from: u64, work: u64, units: u32) -> Resumable
-    requires { ⌜ (valid t ≡ true) × (from ≤ 2 ^ 43) × (work ≤ 2 ^ 53) ⌝ }
+    requires { ⌜ (valid t ≡ true) × (from ≤ lastAsked) × (work ≤ longestSpan) ⌝ }
     ensures { λ r. ⌜ resumableOf r ≡ resumed t work (earliestResumable t from work units) ⌝ }
 {
     if units > t.capacity {

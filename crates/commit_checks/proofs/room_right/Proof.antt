@@ -11,7 +11,7 @@ use Rattle.calendar.specs.Every.{every, first-at}
 use Rattle.commit_checks.specs.Lines.{numbered, roomy}
 use mathlib.Core.List.{[]}
 use Rattle.scheduler.specs.Arrays.{every-next, every-off}
-use Rattle.commit_checks.proofs.Rows.{number-is, room-short, room-enough}
+use Rattle.commit_checks.proofs.Rows.{RowPlace, number-is, room-short, room-enough}
 
 abbrev Inv-loop : tie.InvT-loop
 Inv-loop slate count places lens tally i₀ i = (i ≤ count) × (every (roomy places lens tally) (take i slate) ≡ true)
@@ -27,101 +27,46 @@ mul-row : tie.Need-mul-row Inv-loop μ-loop
 mul-row c = search needs
 
 shared-slice-copy-out-row : tie.Need-shared-slice-copy-out-row Inv-loop μ-loop
-shared-slice-copy-out-row c =
-    let v = c .before .loop .inv in
-    let l = c .loop-test .taken in
-    omega (arith, c .before .before .pre .0 .0)
+shared-slice-copy-out-row c = omega (arith, c .loop-test .taken, c .before .before .pre .0 .0)
+
+-- row i names a number that has a place, whose diary holds at most 64 bookings
+here : (c : tie.In-loop Inv-loop μ-loop) → RowPlace (c .before .before .args .t3) (c .before .before .args .t4) (getD (c .before .before .args .slate .now) (c .before .loop .i) [])
+here c =
+    let a = c .before .before .args in
+    let p = c .before .before .pre in
+    let w = number-is (a .t3) (getD (a .slate .now) (c .before .loop .i) []) (first-at (numbered (a .t3)) [] (a .count) (a .slate .now) (p .0 .0) (p .0 .1) (c .before .loop .i) (c .loop-test .taken)) in
+    (w .0, w .1, p .1 _ (w .1))
 
 array-read-number : tie.Need-array-read-number Inv-loop μ-loop
 array-read-number c = search needs
 
 mul-place : tie.Need-mul-place Inv-loop μ-loop
-mul-place c =
-    let a = c .before .before .before .args in
-    let p = c .before .before .before .pre in
-    let v = c .before .before .loop .inv in
-    let i = c .before .before .loop .i in
-    let l = c .before .loop-test .taken in
-    let w = number-is (a .t3) (getD (a .slate .now) i []) (first-at (numbered (a .t3)) [] (a .count) (a .slate .now) (p .0 .0) (p .0 .1) i l) in
-    let few = p .1 (getD (a .t3) (getD (getD (a .slate .now) i []) 0 0) 0) (w .1) in
-    search needs
+mul-place c = let h = here (c .before) in search needs
 
 array-read-place : tie.Need-array-read-place Inv-loop μ-loop
-array-read-place c =
-    let a = c .before .before .before .args in
-    let p = c .before .before .before .pre in
-    let v = c .before .before .loop .inv in
-    let i = c .before .before .loop .i in
-    let l = c .before .loop-test .taken in
-    let w = number-is (a .t3) (getD (a .slate .now) i []) (first-at (numbered (a .t3)) [] (a .count) (a .slate .now) (p .0 .0) (p .0 .1) i l) in
-    let few = p .1 (getD (a .t3) (getD (getD (a .slate .now) i []) 0 0) 0) (w .1) in
-    search needs
+array-read-place c = let h = here (c .before) in search needs
 
 mul-if1 : tie.Need-mul-if1 Inv-loop μ-loop
-mul-if1 c =
-    let a = c .before .before .before .args in
-    let p = c .before .before .before .pre in
-    let v = c .before .before .loop .inv in
-    let i = c .before .before .loop .i in
-    let l = c .before .loop-test .taken in
-    let w = number-is (a .t3) (getD (a .slate .now) i []) (first-at (numbered (a .t3)) [] (a .count) (a .slate .now) (p .0 .0) (p .0 .1) i l) in
-    let few = p .1 (getD (a .t3) (getD (getD (a .slate .now) i []) 0 0) 0) (w .1) in
-    search needs
+mul-if1 c = let h = here (c .before) in search needs
 
 array-read-if1 : tie.Need-array-read-if1 Inv-loop μ-loop
-array-read-if1 c =
-    let a = c .before .before .before .args in
-    let p = c .before .before .before .pre in
-    let v = c .before .before .loop .inv in
-    let i = c .before .before .loop .i in
-    let l = c .before .loop-test .taken in
-    let w = number-is (a .t3) (getD (a .slate .now) i []) (first-at (numbered (a .t3)) [] (a .count) (a .slate .now) (p .0 .0) (p .0 .1) i l) in
-    let few = p .1 (getD (a .t3) (getD (getD (a .slate .now) i []) 0 0) 0) (w .1) in
-    search needs
+array-read-if1 c = let h = here (c .before) in search needs
 
 mul-if1-2 : tie.Need-mul-if1-2 Inv-loop μ-loop
-mul-if1-2 c =
-    let a = c .before .before .before .args in
-    let p = c .before .before .before .pre in
-    let v = c .before .before .loop .inv in
-    let i = c .before .before .loop .i in
-    let l = c .before .loop-test .taken in
-    let w = number-is (a .t3) (getD (a .slate .now) i []) (first-at (numbered (a .t3)) [] (a .count) (a .slate .now) (p .0 .0) (p .0 .1) i l) in
-    let few = p .1 (getD (a .t3) (getD (getD (a .slate .now) i []) 0 0) 0) (w .1) in
-    search needs
+mul-if1-2 c = let h = here (c .before) in search needs
 
 array-read-if1-2 : tie.Need-array-read-if1-2 Inv-loop μ-loop
-array-read-if1-2 c =
-    let a = c .before .before .before .args in
-    let p = c .before .before .before .pre in
-    let v = c .before .before .loop .inv in
-    let i = c .before .before .loop .i in
-    let l = c .before .loop-test .taken in
-    let w = number-is (a .t3) (getD (a .slate .now) i []) (first-at (numbered (a .t3)) [] (a .count) (a .slate .now) (p .0 .0) (p .0 .1) i l) in
-    let few = p .1 (getD (a .t3) (getD (getD (a .slate .now) i []) 0 0) 0) (w .1) in
-    search needs
+array-read-if1-2 c = let h = here (c .before) in search needs
 
 sub-if1 : tie.Need-sub-if1 Inv-loop μ-loop
-sub-if1 c =
-    let a = c .before .before .before .args in
-    let p = c .before .before .before .pre in
-    let v = c .before .before .loop .inv in
-    let i = c .before .before .loop .i in
-    let l = c .before .loop-test .taken in
-    let w = number-is (a .t3) (getD (a .slate .now) i []) (first-at (numbered (a .t3)) [] (a .count) (a .slate .now) (p .0 .0) (p .0 .1) i l) in
-    let few = p .1 (getD (a .t3) (getD (getD (a .slate .now) i []) 0 0) 0) (w .1) in
-    search needs
+sub-if1 c = let h = here (c .before) in search needs
 
 returns : tie.Need-returns Inv-loop μ-loop
 returns c =
     let a = c .before .before .before .before .args in
     let p = c .before .before .before .before .pre in
-    let v = c .before .before .before .loop .inv in
     let i = c .before .before .before .loop .i in
-    let l = c .before .before .loop-test .taken in
-    let w = number-is (a .t3) (getD (a .slate .now) i []) (first-at (numbered (a .t3)) [] (a .count) (a .slate .now) (p .0 .0) (p .0 .1) i l) in
-    let few = p .1 (getD (a .t3) (getD (getD (a .slate .now) i []) 0 0) 0) (w .1) in
-    sym (every-off (roomy (a .t3) (a .t4) (a .t5)) [] (a .slate .now) i (a .count) l (p .0 .0) (room-short (a .t3) (a .t4) (a .t5) (getD (a .slate .now) i []) (omega (arith, c .if1 .taken, few))))
+    sym (every-off (roomy (a .t3) (a .t4) (a .t5)) [] (a .slate .now) i (a .count) (c .before .before .loop-test .taken) (p .0 .0) (room-short (a .t3) (a .t4) (a .t5) (getD (a .slate .now) i []) (omega (arith, c .if1 .taken, here (c .before .before) .2))))
 
 add-i : tie.Need-add-i Inv-loop μ-loop
 add-i c = search needs
@@ -133,12 +78,8 @@ loop-again : tie.Need-loop-again Inv-loop μ-loop
 loop-again c =
     let a = c .before .before .before .before .args in
     let p = c .before .before .before .before .pre in
-    let v = c .before .before .before .loop .inv in
     let i = c .before .before .before .loop .i in
-    let l = c .before .before .loop-test .taken in
-    let w = number-is (a .t3) (getD (a .slate .now) i []) (first-at (numbered (a .t3)) [] (a .count) (a .slate .now) (p .0 .0) (p .0 .1) i l) in
-    let few = p .1 (getD (a .t3) (getD (getD (a .slate .now) i []) 0 0) 0) (w .1) in
-    (omega arith, every-next (roomy (a .t3) (a .t4) (a .t5)) [] (a .slate .now) i (omega (arith, p .0 .0)) (v .1) (room-enough (a .t3) (a .t4) (a .t5) (getD (a .slate .now) i []) (omega (arith, c .if1 .left, few))))
+    (omega arith, every-next (roomy (a .t3) (a .t4) (a .t5)) [] (a .slate .now) i (omega (arith, p .0 .0)) (c .before .before .before .loop .inv .1) (room-enough (a .t3) (a .t4) (a .t5) (getD (a .slate .now) i []) (omega (arith, c .if1 .left, here (c .before .before) .2))))
 
 returns-2 : tie.Need-returns-2 Inv-loop μ-loop
 returns-2 c =

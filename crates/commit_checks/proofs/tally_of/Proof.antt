@@ -1,7 +1,7 @@
 -- `commit_checks::tally_of` meets its contract. The loop: the rows so far are counted.
 use borrow.Author.Needs.{needs}
 use mathlib.Core.Path.{_≡_, refl, _∙_}
-use Prim.Native.Nat.{_-_, _≤_}
+use Prim.Native.Nat.{_-_, _≤_, _<_}
 use native.Mathlib.Omega.{arith}
 use lib.ListN.{length, getD, length-set}
 use Rattle.commit_checks.proofs.tally_of.Statement.{statement}
@@ -23,51 +23,32 @@ mul-row : tie.Need-mul-row Inv-loop μ-loop
 mul-row c = search needs
 
 shared-slice-copy-out-row : tie.Need-shared-slice-copy-out-row Inv-loop μ-loop
-shared-slice-copy-out-row c =
-    let v = c .before .loop .inv in
-    let l = c .loop-test .taken in
-    omega (arith, c .before .before .pre .0)
+shared-slice-copy-out-row c = omega (arith, c .loop-test .taken, c .before .before .pre .0)
+
+-- row i names a number below 16
+low : (c : tie.In-loop Inv-loop μ-loop) → getD (getD (c .before .before .args .slate .now) (c .before .loop .i) []) 0 0 < 16
+low c = c .before .before .pre .1 (c .before .loop .i) (c .loop-test .taken)
 
 array-read-number : tie.Need-array-read-number Inv-loop μ-loop
 array-read-number c = search needs
 
 mul-tally : tie.Need-mul-tally Inv-loop μ-loop
-mul-tally c =
-    let p = c .before .before .before .pre in
-    let v = c .before .before .loop .inv in
-    let i = c .before .before .loop .i in
-    let l = c .before .loop-test .taken in
-    let w = p .1 i l in
-    search needs
+mul-tally c = let w = low (c .before) in search needs
 
 array-read-tally : tie.Need-array-read-tally Inv-loop μ-loop
-array-read-tally c =
-    let p = c .before .before .before .pre in
-    let v = c .before .before .loop .inv in
-    let i = c .before .before .loop .i in
-    let l = c .before .loop-test .taken in
-    let w = p .1 i l in
-    search needs
+array-read-tally c = let w = low (c .before) in search needs
 
 add-tally : tie.Need-add-tally Inv-loop μ-loop
 add-tally c =
     let a = c .before .before .before .args in
-    let p = c .before .before .before .pre in
     let v = c .before .before .loop .inv in
     let i = c .before .before .loop .i in
-    let l = c .before .loop-test .taken in
-    let w = p .1 i l in
+    let w = low (c .before) in
     let small : getD (c .before .before .loop .tally) (getD (getD (a .slate .now) i []) 0 0) 0 ≤ i = rw (v .2 (getD (getD (a .slate .now) i []) 0 0) w) (entries-few (getD (getD (a .slate .now) i []) 0 0) i (a .slate .now)) in
     search needs
 
 array-write-tally : tie.Need-array-write-tally Inv-loop μ-loop
-array-write-tally c =
-    let p = c .before .before .before .pre in
-    let v = c .before .before .loop .inv in
-    let i = c .before .before .loop .i in
-    let l = c .before .loop-test .taken in
-    let w = p .1 i l in
-    search needs
+array-write-tally c = let w = low (c .before) in search needs
 
 add-i : tie.Need-add-i Inv-loop μ-loop
 add-i c = search needs

@@ -5,7 +5,8 @@ use Rattle.committing.proofs.book_on.Tie as tie
 use borrow.Author.Tests.{not-true, not-false}
 use mathlib.Core.Path.{_≡_, ap, _∙_}
 use Rattle.timeline.specs.declared.Booked.{Booked}
-use Rattle.scheduler.specs.Committing.{Line, withBooking}
+use Rattle.timeline.specs.Book.{withBooking}
+use Rattle.scheduler.specs.Committing.{Line}
 use Rattle.committing.proofs.Ahead.{book-taken, booked-category, booked-companion, booked-plain}
 
 book-requires : tie.Need-book-requires

@@ -3,13 +3,14 @@ use borrow.Author.Needs.{needs}
 use mathlib.Core.Path.{_≡_, refl, sym, _∙_}
 use Prim.Native.Nat.{_-_, _≤_, _<_}
 use native.Mathlib.Omega.{arith}
-use lib.ListN.{length, drop, length-map}
+use lib.ListN.{length, getD, drop, length-map}
+use mathlib.Core.List.{[]}
 use Rattle.committing.proofs.commit.Statement.{statement}
 use Rattle.committing.proofs.commit.Tie as tie
 use Rattle.scheduler.specs.Committing.{linesOf, bookAll}
 use Rattle.scheduler.specs.Committed.{Bookable}
 use Rattle.commit_checks.proofs.Refusing.{fine, reply-refused, reply-taken}
-use Rattle.committing.proofs.Ahead.{Ahead, ahead-none, lines-none, row-here, row-next}
+use Rattle.committing.proofs.Ahead.{Ahead, RowHere, ahead-none, lines-none, row-here, row-next}
 
 abbrev Inv-loop : tie.InvT-loop
 Inv-loop slate count start end category refusal places board₀ i₀ board i = (i ≤ count) × (count ≤ length slate) × (0 < count → Bookable start end category) × Ahead start end category places (bookAll start end category (linesOf count slate) board₀) board (linesOf (count - i) (drop i slate))
@@ -44,115 +45,49 @@ shared-slice-copy-out-row c =
     let l = c .loop-test .taken in
     omega (arith, v .1)
 
+-- the diary that row i names takes its booking
+here : (c : tie.In-loop Inv-loop μ-loop) → RowHere (c .before .loop .board) (c .before .before .before .before .before .places-of .result .places) (getD (c .before .before .before .before .before .before .args .slate .now) (c .before .loop .i) [])
+here c =
+    let a = c .before .before .before .before .before .before .args in
+    let v = c .before .loop .inv in
+    row-here (a .start) (a .end) (a .category) _ (bookAll (a .start) (a .end) (a .category) (linesOf (a .count) (a .slate .now)) (a .b)) (c .before .loop .board) (a .slate .now) (c .before .loop .i) (a .count) (c .loop-test .taken) (v .1) (v .3)
+
 array-read-number : tie.Need-array-read-number Inv-loop μ-loop
 array-read-number c = search needs
 
 mul-place : tie.Need-mul-place Inv-loop μ-loop
-mul-place c =
-    let a = c .before .before .before .before .before .before .before .args in
-    let places = c .before .before .before .before .before .before .places-of .result .places in
-    let v = c .before .before .loop .inv in
-    let i = c .before .before .loop .i in
-    let l = c .before .loop-test .taken in
-    let n = c .before .before .loop .board in
-    let whole = bookAll (a .start) (a .end) (a .category) (linesOf (a .count) (a .slate .now)) (a .b) in
-    let h = row-here (a .start) (a .end) (a .category) places whole n (a .slate .now) i (a .count) l (v .1) (v .3) in
-    search needs
+mul-place c = let h = here (c .before) in search needs
 
 array-read-place : tie.Need-array-read-place Inv-loop μ-loop
-array-read-place c =
-    let a = c .before .before .before .before .before .before .before .args in
-    let places = c .before .before .before .before .before .before .places-of .result .places in
-    let v = c .before .before .loop .inv in
-    let i = c .before .before .loop .i in
-    let l = c .before .loop-test .taken in
-    let n = c .before .before .loop .board in
-    let whole = bookAll (a .start) (a .end) (a .category) (linesOf (a .count) (a .slate .now)) (a .b) in
-    let h = row-here (a .start) (a .end) (a .category) places whole n (a .slate .now) i (a .count) l (v .1) (v .3) in
-    search needs
+array-read-place c = let h = here (c .before) in search needs
 
 mul-r : tie.Need-mul-r Inv-loop μ-loop
-mul-r c =
-    let a = c .before .before .before .before .before .before .before .args in
-    let places = c .before .before .before .before .before .before .places-of .result .places in
-    let v = c .before .before .loop .inv in
-    let i = c .before .before .loop .i in
-    let l = c .before .loop-test .taken in
-    let n = c .before .before .loop .board in
-    let whole = bookAll (a .start) (a .end) (a .category) (linesOf (a .count) (a .slate .now)) (a .b) in
-    let h = row-here (a .start) (a .end) (a .category) places whole n (a .slate .now) i (a .count) l (v .1) (v .3) in
-    search needs
+mul-r c = let h = here (c .before) in search needs
 
 element-copy-out-r : tie.Need-element-copy-out-r Inv-loop μ-loop
-element-copy-out-r c =
-    let a = c .before .before .before .before .before .before .before .args in
-    let places = c .before .before .before .before .before .before .places-of .result .places in
-    let v = c .before .before .loop .inv in
-    let i = c .before .before .loop .i in
-    let l = c .before .loop-test .taken in
-    let n = c .before .before .loop .board in
-    let whole = bookAll (a .start) (a .end) (a .category) (linesOf (a .count) (a .slate .now)) (a .b) in
-    let h = row-here (a .start) (a .end) (a .category) places whole n (a .slate .now) i (a .count) l (v .1) (v .3) in
-    search needs
+element-copy-out-r c = let h = here (c .before) in search needs
 
 array-read-book-on : tie.Need-array-read-book-on Inv-loop μ-loop
 array-read-book-on c = search needs
 
 cast-book-on : tie.Need-cast-book-on Inv-loop μ-loop
-cast-book-on c =
-    let a = c .before .before .before .before .before .before .before .before .args in
-    let places = c .before .before .before .before .before .before .before .places-of .result .places in
-    let v = c .before .before .before .loop .inv in
-    let i = c .before .before .before .loop .i in
-    let l = c .before .before .loop-test .taken in
-    let n = c .before .before .before .loop .board in
-    let whole = bookAll (a .start) (a .end) (a .category) (linesOf (a .count) (a .slate .now)) (a .b) in
-    let h = row-here (a .start) (a .end) (a .category) places whole n (a .slate .now) i (a .count) l (v .1) (v .3) in
-    let few = h .few in
-    omega (arith, few)
+cast-book-on c = omega (arith, here (c .before .before) .few)
 
 array-read-book-on-2 : tie.Need-array-read-book-on-2 Inv-loop μ-loop
 array-read-book-on-2 c = search needs
 
 book-on-requires : tie.Need-book-on-requires Inv-loop μ-loop
 book-on-requires c κs =
-    let a = c .before .before .before .before .before .before .before .before .args in
-    let places = c .before .before .before .before .before .before .before .places-of .result .places in
+    let h = here (c .before .before) in
     let v = c .before .before .before .loop .inv in
-    let i = c .before .before .before .loop .i in
     let l = c .before .before .loop-test .taken in
-    let n = c .before .before .before .loop .board in
-    let whole = bookAll (a .start) (a .end) (a .category) (linesOf (a .count) (a .slate .now)) (a .b) in
-    let h = row-here (a .start) (a .end) (a .category) places whole n (a .slate .now) i (a .count) l (v .1) (v .3) in
     (h .kept, h .free, v .2 (omega (arith, l)), h .some, h .few)
 
 mul-x : tie.Need-mul-x Inv-loop μ-loop
-mul-x c =
-    let a = c .before .before .before .before .before .before .before .before .before .args in
-    let places = c .before .before .before .before .before .before .before .before .places-of .result .places in
-    let v = c .before .before .before .before .loop .inv in
-    let i = c .before .before .before .before .loop .i in
-    let l = c .before .before .before .loop-test .taken in
-    let n = c .before .before .before .before .loop .board in
-    let whole = bookAll (a .start) (a .end) (a .category) (linesOf (a .count) (a .slate .now)) (a .b) in
-    let h = row-here (a .start) (a .end) (a .category) places whole n (a .slate .now) i (a .count) l (v .1) (v .3) in
-    let low = h .place-low in
-    let number = h .low in
-    omega (arith, low, number)
+mul-x c = let h = here (c .before .before .before) in omega (arith, h .place-low, h .low)
 
 element-set-from-x : tie.Need-element-set-from-x Inv-loop μ-loop
-element-set-from-x c =
-    let a = c .before .before .before .before .before .before .before .before .before .args in
-    let places = c .before .before .before .before .before .before .before .before .places-of .result .places in
-    let v = c .before .before .before .before .loop .inv in
-    let i = c .before .before .before .before .loop .i in
-    let l = c .before .before .before .loop-test .taken in
-    let n = c .before .before .before .before .loop .board in
-    let whole = bookAll (a .start) (a .end) (a .category) (linesOf (a .count) (a .slate .now)) (a .b) in
-    let h = row-here (a .start) (a .end) (a .category) places whole n (a .slate .now) i (a .count) l (v .1) (v .3) in
-    let low = h .place-low in
-    let number = h .low in
-    omega (arith, low, number)
+element-set-from-x c = let h = here (c .before .before .before) in omega (arith, h .place-low, h .low)
 
 add-i : tie.Need-add-i Inv-loop μ-loop
 add-i c = search needs

@@ -37,8 +37,9 @@ is-among-requires c κs =
     let v = c .before .before .loop .inv in
     joined-few _ _ _ _ _ (v .3)
 
-mul-t16 : tie.Need-mul-t16 Inv-loop μ-loop
-mul-t16 c =
+-- there is room for one more
+room : (c : tie.Then1 Inv-loop μ-loop) → c .before .before .before .before .loop .more .count < 24
+room c =
     let a = c .before .before .before .before .before .args in
     let q = c .before .before .before .before .before .pre in
     let v = c .before .before .before .before .loop .inv in
@@ -46,32 +47,16 @@ mul-t16 c =
     let l = c .before .before .before .loop-test .taken in
     let e = c .before .is-among .ensures in
     let small = small-at (a .t2 .numbers) (a .t2 .len) (omega (arith, v .2, q .1)) (q .2) i l in
-    let r = join-room _ _ (a .t2 .numbers) i _ _ (omega (arith, v .2, q .1)) (v .3) (sym e ∙ not-true _ (c .if1 .taken)) small in
-    search needs
+    join-room _ _ (a .t2 .numbers) i _ _ (omega (arith, v .2, q .1)) (v .3) (sym e ∙ not-true _ (c .if1 .taken)) small
+
+mul-t16 : tie.Need-mul-t16 Inv-loop μ-loop
+mul-t16 c = let r = room c in search needs
 
 element-set-from-more : tie.Need-element-set-from-more Inv-loop μ-loop
-element-set-from-more c =
-    let a = c .before .before .before .before .before .args in
-    let q = c .before .before .before .before .before .pre in
-    let v = c .before .before .before .before .loop .inv in
-    let i = c .before .before .before .before .loop .i in
-    let l = c .before .before .before .loop-test .taken in
-    let e = c .before .is-among .ensures in
-    let small = small-at (a .t2 .numbers) (a .t2 .len) (omega (arith, v .2, q .1)) (q .2) i l in
-    let r = join-room _ _ (a .t2 .numbers) i _ _ (omega (arith, v .2, q .1)) (v .3) (sym e ∙ not-true _ (c .if1 .taken)) small in
-    r
+element-set-from-more c = room c
 
 add-more : tie.Need-add-more Inv-loop μ-loop
-add-more c =
-    let a = c .before .before .before .before .before .args in
-    let q = c .before .before .before .before .before .pre in
-    let v = c .before .before .before .before .loop .inv in
-    let i = c .before .before .before .before .loop .i in
-    let l = c .before .before .before .loop-test .taken in
-    let e = c .before .is-among .ensures in
-    let small = small-at (a .t2 .numbers) (a .t2 .len) (omega (arith, v .2, q .1)) (q .2) i l in
-    let r = join-room _ _ (a .t2 .numbers) i _ _ (omega (arith, v .2, q .1)) (v .3) (sym e ∙ not-true _ (c .if1 .taken)) small in
-    search needs
+add-more c = let r = room c in search needs
 
 add-i : tie.Need-add-i Inv-loop μ-loop
 add-i c = search needs
