@@ -1,16 +1,13 @@
 -- What the definitions amount to: where a number stands, what a valid board says of each resource, setups and transports.
 use borrow.Author.Tests.{leb-true, eqb-true, lt-ltb, eq-eqb}
 use mathlib.Core.Bool.{Bool, true, false, cond, _&&_, _||_}
-use mathlib.Core.List.{List}
-use mathlib.Core.Logic.{_⊎_, ⊎-elim, inl, inr}
-use mathlib.Core.Path.{_≡_, refl, _∙_}
+use mathlib.Core.Path.{_≡_, refl}
 use Prim.Native.Nat.{ℕ, zero, suc, _+_, _*_, _/_, _%_, _^_, _≤_, _<_, max}
-use native.Mathlib.Nat.{eq-or-lt-of-le}
 use native.Mathlib.Omega.{arith}
 use lib.Dec.{leb, eqb}
 use lib.IntN.{ℤ, pos, negsuc}
 use lib.ListN.{getD}
-use Rattle.calendar.specs.Basics.{and-split, lt-or-ge}
+use Rattle.calendar.specs.Basics.{and-split}
 use Rattle.calendar.specs.Search.{at}
 use Rattle.board.specs.Resources.{resourceAt, numberAt, lookupTo, lookup, onBoard}
 use Rattle.board.specs.Setups.{entryOr, matrixSetup, setupMs}
@@ -25,6 +22,7 @@ use Rattle.board.specs.declared.Resource.{Resource}
 use Rattle.board.specs.declared.TransitionMatrix.{TransitionMatrix}
 use Rattle.calendar.specs.Every.{everyFrom, from-at}
 use Rattle.board.proofs.Facts.{rules}
+use Rattle.board.proofs.Masks.{greatest-none, greatest-next}
 use Rattle.board.proofs.Seeing.{lookup-below, lookup-number, nothing-of}
 use Rattle.calendar.specs.Searching.{least-none, least-is}
 use Rattle.timeline.specs.Valid as timeline
@@ -90,9 +88,10 @@ transport-fact b v k l = cell-facts (getD (b .transport) k 0) (onBoard b (k / 16
 -- bits off the board add nothing on a valid board
 pub off-nothing : (b : Board) → valid b ≡ true → (origins to n : ℕ) → to < 16 → n ≤ 16
     → greatestTransport anywhere (b .transport) origins to n ≡ greatestTransport (onBoard b) (b .transport) origins to n
-unfolding greatestTransport anywhere
-off-nothing b v origins to zero l m = refl
-off-nothing b v origins to (suc n) l m = rw (off-nothing b v origins to n l (omega arith)) (go (bit origins n) (onBoard b n) refl)
+unfolding anywhere
+off-nothing b v origins to zero l m = rw (greatest-none anywhere (b .transport) origins to, greatest-none (onBoard b) (b .transport) origins to) refl
+off-nothing b v origins to (suc n) l m =
+    rw (greatest-next anywhere (b .transport) origins to n, greatest-next (onBoard b) (b .transport) origins to n, off-nothing b v origins to n l (omega arith)) (go (bit origins n) (onBoard b n) refl)
   where
     before : ℕ
     before = greatestTransport (onBoard b) (b .transport) origins to n
@@ -111,56 +110,14 @@ off-nothing b v origins to (suc n) l m = rw (off-nothing b v origins to n l (ome
 pub transport-is : (b : Board) → valid b ≡ true → (origins to : ℕ) → to < 16 → greatestTransport anywhere (b .transport) origins to 16 ≡ transportTo b origins to
 transport-is b v origins to l = off-nothing b v origins to 16 l (omega arith)
 
--- the greatest transport: none is greater, and it is one of them or 0
-pub greatest-least : (on : ℕ → Bool) (transport : List ℕ) (origins to n k : ℕ) → k < n → bit origins k ≡ true → on k ≡ true
-    → getD transport (16 * k + to) 0 ≤ greatestTransport on transport origins to n
-unfolding greatestTransport
-greatest-least on transport origins to zero k l p q = absurd (omega arith)
-greatest-least on transport origins to (suc n) k l p q =
-    ⊎-elim
-    (λ (e : k ≡ n).
-    let p2 : bit origins n ≡ true = rw (← e) p in
-    let q2 : on n ≡ true = rw (← e) q in
-    rw (e, p2, q2) (omega arith))
-    (λ (m : k < n). omega (arith, greatest-least on transport origins to n k m p q))
-    (eq-or-lt-of-le (omega arith))
-
-pub greatest-one : (on : ℕ → Bool) (transport : List ℕ) (origins to n : ℕ)
-    → (greatestTransport on transport origins to n ≡ 0) ⊎ ((k : ℕ) × (k < n) × (bit origins k ≡ true) × (on k ≡ true) × (greatestTransport on transport origins to n ≡ getD transport (16 * k + to) 0))
-unfolding greatestTransport
-greatest-one on transport origins to zero = inl refl
-greatest-one on transport origins to (suc n) = go (bit origins n) refl (on n) refl (greatest-one on transport origins to n)
-  where
-    was : ℕ
-    was = greatestTransport on transport origins to n
-
-    ms : ℕ
-    ms = getD transport (16 * n + to) 0
-
-    Goal : ℕ → Type 0
-    Goal x = (x ≡ 0) ⊎ ((k : ℕ) × (k < suc n) × (bit origins k ≡ true) × (on k ≡ true) × (x ≡ getD transport (16 * k + to) 0))
-
-    kept : (x : ℕ) → x ≡ was → (was ≡ 0) ⊎ ((k : ℕ) × (k < n) × (bit origins k ≡ true) × (on k ≡ true) × (was ≡ getD transport (16 * k + to) 0)) → Goal x
-    kept x e (inl z) = inl (e ∙ z)
-    kept x e (inr w) = inr (w .0, omega (arith, w .1), w .2, w .3, e ∙ w .4)
-
-    go : (t : Bool) → bit origins n ≡ t → (o : Bool) → on n ≡ o
-        → (was ≡ 0) ⊎ ((k : ℕ) × (k < n) × (bit origins k ≡ true) × (on k ≡ true) × (was ≡ getD transport (16 * k + to) 0))
-        → Goal (max was (cond (t && o) ms 0))
-    go true p true q h =
-        ⊎-elim
-        (λ (l : was < ms). inr (n, omega arith, p, q, omega arith))
-        (λ (l : ms ≤ was). kept _ (omega arith) h)
-        (lt-or-ge was ms)
-    go true p false q h = kept _ (omega arith) h
-    go false p o q h = kept _ (omega arith) h
-
+-- and a transport is at most 2^36
 pub greatest-small : (on : ℕ → Bool) (b : Board) → valid b ≡ true → (origins to n : ℕ) → to < 16 → n ≤ 16 → greatestTransport on (b .transport) origins to n ≤ 2 ^ 36
-greatest-small on b v origins to n l m =
-    ⊎-elim
-    (λ z. omega (arith, z))
-    (λ w. omega (arith, w .4, transport-fact b v (16 * w .0 + to) (omega (arith, w .1)) .0))
-    (greatest-one on (b .transport) origins to n)
+greatest-small on b v origins to zero l m = omega (arith, greatest-none on (b .transport) origins to)
+greatest-small on b v origins to (suc n) l m = rw (greatest-next on (b .transport) origins to n) (go (bit origins n && on n) (greatest-small on b v origins to n l (omega arith)))
+  where
+    go : (q : Bool) → greatestTransport on (b .transport) origins to n ≤ 2 ^ 36 → max (greatestTransport on (b .transport) origins to n) (cond q (getD (b .transport) (16 * n + to) 0) 0) ≤ 2 ^ 36
+    go true h = omega (arith, transport-fact b v (16 * n + to) (omega arith) .0)
+    go false h = omega arith
 
 -- a setup is at most 2^36
 entry-small : (present : Bool) (z : ℤ) (other : ℕ) → entryCell present z ≡ true → other ≤ 2 ^ 36 → entryOr z other ≤ 2 ^ 36

@@ -4,7 +4,7 @@ use mathlib.Core.Path.{_≡_, refl}
 use mathlib.Core.List.{[], _∷_}
 use lib.ListN.{replicate, set}
 use lib.IntN.{pos}
-use Rattle.calendar.specs.Search.{leastFrom}
+use Rattle.calendar.specs.Search.{leastFrom, greatestOf}
 use Rattle.board.specs.declared.TransitionMatrix.{TransitionMatrix}
 use Rattle.board.specs.declared.LastCategory.the-variants.{Nothing, Category}
 use Rattle.board.specs.declared.Resource.{Resource}
@@ -12,7 +12,7 @@ use Rattle.board.specs.declared.Board.{Board}
 use Rattle.board.specs.Resources.{lookupTo, isAt}
 use Rattle.board.specs.Setups.{entryOr, matrixSetup, setupMs}
 use Rattle.calendar.specs.Sets.{bit}
-use Rattle.board.specs.Transport.{greatestTransport, transportTo}
+use Rattle.board.specs.Transport.{placesFrom, greatestTransport, transportTo}
 use Rattle.board.specs.Enter.{blankMatrix, blankResource, newMatrix, withTransition, withInitial}
 
 -- default 7, initial 9; the pair (1, 2) is 5, the first entry of 3 is 4, and every other entry is absent
@@ -53,5 +53,5 @@ three = record { resources = numbered 2 ∷ numbered 0 ∷ numbered 1 ∷ []; le
 pub transports :
     (transportTo three 3 2 ∷ transportTo three 1 2 ∷ transportTo three 8 2 ∷ transportTo three 0 2 ∷ transportTo three 9 2 ∷ [])
     ≡ 40 ∷ 30 ∷ 0 ∷ 0 ∷ 30 ∷ []
-unfolding bit greatestTransport lookupTo leastFrom isAt
+unfolding bit placesFrom greatestTransport greatestOf lookupTo leastFrom isAt
 transports = refl

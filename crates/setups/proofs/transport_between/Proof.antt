@@ -1,13 +1,13 @@
 -- `setups::transport_between` meets its contract. The loop: the greatest over the numbers passed.
 use borrow.Author.Needs.{needs}
 use mathlib.Core.Logic.{⊎-elim}
-use mathlib.Core.Path.{_≡_, refl}
+use mathlib.Core.Path.{_≡_, refl, sym}
 use Prim.Native.Nat.{_-_, _≤_}
 use native.Mathlib.Omega.{arith}
 use Rattle.board.specs.Transport.{greatestTransport}
 use Rattle.board.specs.Places.{anywhere}
 use Rattle.calendar.specs.Sets.{bit-yes, bit-no}
-use Rattle.board.proofs.Masks.{greatest-hit, greatest-miss}
+use Rattle.board.proofs.Masks.{greatest-none, greatest-hit, greatest-miss}
 use Rattle.setups.proofs.transport_between.Statement.{statement}
 use Rattle.setups.proofs.transport_between.Tie as tie
 
@@ -18,8 +18,7 @@ abbrev μ-loop : tie.MeasureT-loop
 μ-loop transport origins to column most₀ n₀ most n = 16 - n
 
 loop-holds : tie.Need-loop-holds Inv-loop μ-loop
-unfolding greatestTransport
-loop-holds c = (refl, omega arith, refl)
+loop-holds c = (refl, omega arith, sym (greatest-none _ _ _ _))
 
 cast-if1 : tie.Need-cast-if1 Inv-loop μ-loop
 cast-if1 c = search needs
