@@ -25,11 +25,9 @@ use Rattle.board.proofs.Meaning.{resource-of}
 use Rattle.scheduler.specs.Alone.{Share, oneUnit, earliestOf, companionsOf, withCompanions, spanAlone, arrival, startWith, startAlone}
 use Rattle.scheduler.specs.Fitting.{among}
 use Rattle.scheduler.specs.Shares.{startOn, noShare}
-use Rattle.scheduler.specs.Events.{events, above, above-le, among-append}
-use Rattle.scheduler.specs.Lists.{each-on}
+use Rattle.scheduler.specs.Events.{events, above, above-le, among-right}
 use Rattle.scheduler.specs.Together.{Sound}
-use Rattle.scheduler.specs.Ruled.{eventsOn, event-on, companions-sound, points}
-use Rattle.scheduler.specs.Tests.{or-in-right}
+use Rattle.scheduler.specs.Ruled.{eventsOn, place-event, all-seated, seated-sound, points}
 use Rattle.scheduler.specs.Asking.{nextAsked, Asked, asked-start, asked-on, asked-none, asked-listed, asked-less, asked-all}
 use Rattle.plans.specs.declared.Plan.{Plan}
 use Rattle.plans.specs.Plans.{planWith, planOf}
@@ -128,8 +126,7 @@ module _ (b : Board) (a : Activity) (ready i t : ℕ) (q : ResourceRequirement) 
             (seat-there b v places known i l (q .usage) on k o, seat-share b v places known i l (q .usage) on k o)
 
         sound : Sound those
-        unfolding withCompanions
-        sound = each-on (resource-of b v i l .timeline) (companions-sound b v (companionsOf r) on)
+        sound = seated-sound b v those (all-seated b v i (q .usage) l on)
 
       module _ (m : Member) (is : m ≡ memberOf q p i places t g) where
         abbrev here : ℕ
@@ -227,7 +224,7 @@ module _ (b : Board) (a : Activity) (ready i t : ℕ) (q : ResourceRequirement) 
           listed x =
               ⊎-elim inl
               (λ (e : among x (events (getD those (g .next) noShare .timeline)) ≡ true).
-              inr (among-append x (map (arrival b a ready) (resourcesOf b)) (eventsOn (resourcesOf b)) ∙ or-in-right (among x (map (arrival b a ready) (resourcesOf b))) (among x (eventsOn (resourcesOf b))) (event-on x (b .len) (b .resources) (m .place) there (ap (λ (y : Share). among x (events (y .timeline))) share-is ∙ e))))
+              inr (among-right x (map (arrival b a ready) (resourcesOf b)) (eventsOn b) (place-event b (m .place) x there (ap (λ (y : Share). among x (events (y .timeline))) share-is ∙ e))))
 
           asked : (f : Found) → startOn (a .resumable) (spanAlone a r) (getD those (g .next) noShare) here ≡ f → Told g (answeredBy (g .next) here f)
           unfolding answeredBy numberOf

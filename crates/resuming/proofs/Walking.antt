@@ -32,8 +32,8 @@ use Rattle.scheduler.specs.Shares.{noShare}
 use Rattle.scheduler.specs.Lists.{each-end, each-on, each-append}
 use Rattle.scheduler.specs.Arrays.{each-at, cells-map, take-next}
 use Rattle.scheduler.specs.Tests.{or-in-left, or-in-right}
-use Rattle.scheduler.specs.Events.{events, eventsOf, among-append, above, above-falls}
-use Rattle.scheduler.specs.Asking.{event-among}
+use Rattle.scheduler.specs.Events.{events, eventsOf, among-left, among-right, above, above-falls}
+use Rattle.scheduler.specs.Asking.{share-event}
 use Rattle.candidates.specs.Steps.{Listed, Event}
 use Rattle.scheduler.specs.Together.{Sound, Calm}
 use Rattle.scheduler.specs.Owning.{suitsOn, leastOn}
@@ -309,11 +309,11 @@ listed-in (x ∷ xs) (suc n) y l (suc k, m, e) = or-in-right (eqb x y) (among y 
 -- an event on the i-th diary is one of all
 pub event-stop : (xs : List Share) (i x : ℕ) (d : ResourceTimeline) → d ≡ getD xs i noShare .timeline → 1 ≤ x → Event d x → among x (eventsOf xs) ≡ true
 unfolding events
-event-stop xs i x d e l on = event-among xs i x (ap (λ (y : ResourceTimeline). among x (events y)) (sym e) ∙ among-append x W (B ++ C) ∙ ⊎-elim
-    (λ (z : Listed (d .calendar .windows .starts) (d .calendar .windows .len) x). or-in-left (among x W) (among x (B ++ C)) (listed-in (d .calendar .windows .starts) (d .calendar .windows .len) x l z))
-    (λ z. or-in-right (among x W) (among x (B ++ C)) (among-append x B C ∙ ⊎-elim
-    (λ (y : Listed (d .calendar .blocks .ends) (d .calendar .blocks .len) x). or-in-left (among x B) (among x C) (listed-in (d .calendar .blocks .ends) (d .calendar .blocks .len) x l y))
-    (λ (y : Listed (d .ends) (d .len) x). or-in-right (among x B) (among x C) (listed-in (d .ends) (d .len) x l y))
+event-stop xs i x d e l on = share-event xs i x (ap (λ (y : ResourceTimeline). among x (events y)) (sym e) ∙ ⊎-elim
+    (λ (z : Listed (d .calendar .windows .starts) (d .calendar .windows .len) x). among-left x W (B ++ C) (listed-in (d .calendar .windows .starts) (d .calendar .windows .len) x l z))
+    (λ z. among-right x W (B ++ C) (⊎-elim
+    (λ (y : Listed (d .calendar .blocks .ends) (d .calendar .blocks .len) x). among-left x B C (listed-in (d .calendar .blocks .ends) (d .calendar .blocks .len) x l y))
+    (λ (y : Listed (d .ends) (d .len) x). among-right x B C (listed-in (d .ends) (d .len) x l y))
     z))
     on)
   where

@@ -1,8 +1,8 @@
 -- Several diaries asked one after another: each from the start that the one before gave, and those in front again where it has moved on.
 -- Where all have been asked, that is the least start on all of them.
-use mathlib.Core.Path.{_≡_, refl, sym, ap, _∙_, subst}
+use mathlib.Core.Path.{_≡_, refl, ap, _∙_, subst}
 use mathlib.Core.Bool.{Bool, true, false}
-use mathlib.Core.List.{List, [], _∷_}
+use mathlib.Core.List.{List}
 use mathlib.Core.Logic.{_⊎_, inl, inr, ⊎-elim}
 use Prim.Native.Nat.{ℕ, zero, suc, _+_, _-_, _*_, _≤_, _<_}
 use native.Mathlib.Omega.{arith}
@@ -22,8 +22,7 @@ use Rattle.scheduler.specs.Shares.{startOn, noShare}
 use Rattle.scheduler.specs.Arrays.{each-at}
 use Rattle.scheduler.specs.Fitting.{among}
 use Rattle.scheduler.specs.Together.{Sound, together-is}
-use Rattle.scheduler.specs.Tests.{or-in-left, or-in-right}
-use Rattle.scheduler.specs.Events.{events, eventsOf, among-append, above, above-le, above-falls}
+use Rattle.scheduler.specs.Events.{events, eventsOf, event-among, above, above-le, above-falls}
 use Rattle.scheduler.specs.Latest.{start-answers, start-listed, start-range, sought-past, sought-never}
 
 -- the diary to ask after the i-th: the next, and the first again where the start has moved on past those in front
@@ -129,11 +128,9 @@ asked-less l n before t i x few m low on listed = go (eqb x t) refl
         omega (arith, above-falls l t x (omega (arith, ne)) (⊎-elim (λ (z : x ≡ t). absurd (ne z)) (λ (z : among x l ≡ true). z) listed), above-le l before t low)
 
 -- an event on the i-th diary is one of all
-pub event-among : (xs : List Share) (i x : ℕ) → among x (events (getD xs i noShare .timeline)) ≡ true → among x (eventsOf xs) ≡ true
-unfolding eventsOf events among
-event-among [] i x e = absurd (not-both true refl (sym e))
-event-among (y ∷ ys) zero x e = among-append x (events (y .timeline)) (eventsOf ys) ∙ or-in-left (among x (events (y .timeline))) (among x (eventsOf ys)) e
-event-among (y ∷ ys) (suc i) x e = among-append x (events (y .timeline)) (eventsOf ys) ∙ or-in-right (among x (events (y .timeline))) (among x (eventsOf ys)) (event-among ys i x e)
+pub share-event : (xs : List Share) (i x : ℕ) → among x (events (getD xs i noShare .timeline)) ≡ true → among x (eventsOf xs) ≡ true
+unfolding events
+share-event xs i x e = event-among (λ y. y .timeline) noShare refl xs i x e
 
 pub listed-among : (xs : List Share) (i t x : ℕ) → (x ≡ t) ⊎ (among x (events (getD xs i noShare .timeline)) ≡ true) → (x ≡ t) ⊎ (among x (eventsOf xs) ≡ true)
-listed-among xs i t x = ⊎-elim inl (λ (e : among x (events (getD xs i noShare .timeline)) ≡ true). inr (event-among xs i x e))
+listed-among xs i t x = ⊎-elim inl (λ (e : among x (events (getD xs i noShare .timeline)) ≡ true). inr (share-event xs i x e))

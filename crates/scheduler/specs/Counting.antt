@@ -1,12 +1,12 @@
 -- The rounds of choosing, of companions and of the closing fit end within 2,129 instants, as 01 counts them: ready, 16 arrivals, 128
 -- events on each of 16 diaries, and 64 on the order's own calendar. So the Rust's 10,000 rounds are never met.
-use mathlib.Core.Path.{_≡_, refl, sym, _∙_}
+use mathlib.Core.Path.{_≡_, refl, sym}
 use mathlib.Core.Bool.{Bool, true, false, cond}
-use mathlib.Core.List.{List, [], _∷_, _++_}
+use mathlib.Core.List.{List, [], _∷_, _++_, map}
 use mathlib.Core.Logic.{inl, inr, ⊎-elim}
 use Prim.Native.Nat.{ℕ, zero, suc, _≤_, _<_}
 use native.Mathlib.Omega.{arith}
-use lib.ListN.{length, getD, take, length-append, length-take}
+use lib.ListN.{length, getD, take, length-append, length-map, length-take}
 use lib.Dec.{eqb}
 use borrow.Author.Tests.{eqb-true, eqb-false}
 use Rattle.calendar.specs.declared.Calendar.{Calendar}
@@ -14,28 +14,28 @@ use Rattle.calendar.specs.Basics.{not-both, lt-or-ge}
 use Rattle.calendar.specs.Search.{Found, nothing, at}
 use Rattle.calendar.specs.Valid as calendar
 use Rattle.calendar.proofs.Rules as calendar-rules
+use Rattle.timeline.specs.Valid as timeline
 use Rattle.timeline.specs.Diary.{diary}
 use Rattle.timeline.proofs.Searching.{Sought, sought-start}
 use Rattle.activity.specs.declared.ResourceRequirement.{ResourceRequirement}
 use Rattle.activity.specs.declared.Activity.{Activity}
 use Rattle.activity.specs.Check.{noRequirement, requirementsOf}
 use Rattle.board.specs.declared.Board.{Board}
-use Rattle.board.specs.Resources.{resourcesOf, onBoard}
+use Rattle.board.specs.Resources.{onBoard}
 use Rattle.board.specs.Valid as board
-use Rattle.scheduler.specs.Alone.{Share, allStart, earliestOf, diaryOf}
+use Rattle.scheduler.specs.Alone.{Share, allStart, earliestOf}
 use Rattle.scheduler.specs.Choosing.{Held, holds, round, greatestStart, Choice, noChoice, chosen, rounds, choosing}
 use Rattle.scheduler.specs.declared.Entry.{Entry}
 use Rattle.scheduler.specs.Fitting.{among, sharesOf, suits, fitting}
 use Rattle.scheduler.specs.Plain.{enough, heldAt}
-use Rattle.scheduler.specs.Tests.{or-in-left, or-in-right, or-cases}
-use Rattle.scheduler.specs.Lists.{Each, each-end, each-on}
+use Rattle.scheduler.specs.Lists.{Each, each-on, each-in-map}
 use Rattle.scheduler.specs.Together.{Sound, together-answers}
 use Rattle.calendar.specs.Searching.{Answers, answers-same}
-use Rattle.scheduler.specs.Events.{events, eventsOf, among-append, above, above-falls, above-length}
+use Rattle.scheduler.specs.Events.{events, eventsIn, eventsOf, among-left, among-right, among-cases, above, above-falls, above-length}
 use Rattle.scheduler.specs.Chosen.{Chooses, round-falls, rounds-mean}
-use Rattle.scheduler.specs.Ruled.{eventsOn, on-event, all-kept, all-listed, points, points-length, events-board, entries-valid}
+use Rattle.scheduler.specs.Ruled.{eventsOn, events-count, entries-seated, entries-valid, seated-events, all-kept, all-listed, points, points-length, events-board}
 use Rattle.scheduler.specs.Closing.{fitting-answers}
-use Rattle.scheduler.specs.Latest.{latestOf, Step, Latest, latest-says, sought-past, sought-never, events-count}
+use Rattle.scheduler.specs.Latest.{latestOf, Step, Latest, latest-says, sought-past, sought-never}
 use Rattle.scheduler.specs.Owning.{ownShare, own-valid, suitsOn, suits-on}
 
 -- from an instant to the latest of the least starts from it, until it stays; at most n times
@@ -105,14 +105,16 @@ instants-fall b v a ready (q ∷ qs) asks l some t hs e ne = round-falls b a rea
 -- Companions: any number above 640 gives the least start of a resource with its at most four companions.
 pub companions-rounds : (resumable : Bool) (span : ℕ) (xs : List Share) (from n : ℕ) → Sound xs → length xs ≤ 5 → 640 < n → steps n (latestOf resumable span xs) from ≡ earliestOf resumable span xs from
 companions-rounds resumable span xs from n v few h =
+    let ts = map (λ x. x .timeline) xs in
+    let count : length (eventsIn ts) ≤ 640 = omega (arith, events-count ts (each-in-map (λ t. timeline.valid t ≡ true) (λ x. x .timeline) xs v), length-map xs (λ (x : Share). x .timeline)) in
     answers-same (allStart resumable span xs) (allStart resumable span xs) from (steps n (latestOf resumable span xs) from) (earliestOf resumable span xs from) (λ x l. refl)
-    (steps-mean (allStart resumable span xs) (latestOf resumable span xs) (eventsOf xs) (λ t. latest-says resumable span xs t v) from n (omega (arith, events-count xs v)))
+    (steps-mean (allStart resumable span xs) (latestOf resumable span xs) (eventsOf xs) (λ t. latest-says resumable span xs t v) from n (omega (arith, count)))
     (together-answers resumable span xs from v)
 
 module _ (b : Board) (v : board.valid b ≡ true) (own : Calendar) (w : calendar.valid own ≡ true) where
   -- the events on the order's own calendar and on all diaries of the board
   abbrev pub closingPoints : List ℕ
-  closingPoints = events (ownShare own .timeline) ++ eventsOn (resourcesOf b)
+  closingPoints = events (ownShare own .timeline) ++ eventsOn b
 
   own-length : length (events (ownShare own .timeline)) ≤ 64
   unfolding events diary
@@ -130,29 +132,21 @@ module _ (b : Board) (v : board.valid b ≡ true) (own : Calendar) (w : calendar
       )
 
   pub closing-length : length closingPoints ≤ 2112
-  closing-length = omega (arith, length-append (events (ownShare own .timeline)) (eventsOn (resourcesOf b)), own-length, events-board b v)
-
-  entry-events : (es : List Entry) → Each (λ e. onBoard b (e .number) ≡ true) es → (x : ℕ) → among x (eventsOf (sharesOf b es)) ≡ true → among x (eventsOn (resourcesOf b)) ≡ true
-  unfolding eventsOf among
-  entry-events [] each-end x h = absurd (not-both true refl (sym h))
-  entry-events (e ∷ es) (each-on o os) x h =
-      ⊎-elim
-      (λ (k : among x (events (diaryOf b (e .number))) ≡ true). on-event b v (e .number) x o k)
-      (λ (k : among x (eventsOf (sharesOf b es)) ≡ true). entry-events es os x k)
-      (or-cases (among x (events (diaryOf b (e .number)))) (among x (eventsOf (sharesOf b es))) (sym (among-append x (events (diaryOf b (e .number))) (eventsOf (sharesOf b es))) ∙ h))
+  closing-length = omega (arith, length-append (events (ownShare own .timeline)) (eventsOn b), own-length, events-board b v)
 
   -- The closing fit of unbroken work: any number above 2,112 gives the least start that suits all.
   pub closing-rounds : (es : List Entry) → Each (λ e. onBoard b (e .number) ≡ true) es → (span t n : ℕ) → 2112 < n → steps n (latestOf false span (ownShare own ∷ sharesOf b es)) t ≡ fitting false (sharesOf b es) own span t
-  unfolding suitsOn eventsOf
+  unfolding suitsOn eventsIn
   closing-rounds es on span t n h =
-      let ys = ownShare own ∷ sharesOf b es in
+      let xs = sharesOf b es in
+      let ys = ownShare own ∷ xs in
       let sound : Sound ys = each-on (own-valid own w) (entries-valid b v es on) in
+      let own-events = events (ownShare own .timeline) in
       let wider : (x : ℕ) → among x (eventsOf ys) ≡ true → among x closingPoints ≡ true = λ x k.
-      among-append x (events (ownShare own .timeline)) (eventsOn (resourcesOf b))
-      ∙ ⊎-elim
-      (λ (j : among x (events (ownShare own .timeline)) ≡ true). or-in-left _ (among x (eventsOn (resourcesOf b))) j)
-      (λ (j : among x (eventsOf (sharesOf b es)) ≡ true). or-in-right (among x (events (ownShare own .timeline))) _ (entry-events es on x j))
-      (or-cases (among x (events (ownShare own .timeline))) (among x (eventsOf (sharesOf b es))) (sym (among-append x (events (ownShare own .timeline)) (eventsOf (sharesOf b es))) ∙ k)) in
-      answers-same (allStart false span ys) (suits false (sharesOf b es) own span) t (steps n (latestOf false span ys) t) (fitting false (sharesOf b es) own span t) (λ x l. sym (suits-on false (sharesOf b es) own span x))
+      ⊎-elim
+      (λ (j : among x own-events ≡ true). among-left x own-events (eventsOn b) j)
+      (λ (j : among x (eventsOf xs) ≡ true). among-right x own-events (eventsOn b) (seated-events b v xs (entries-seated b v es on) x j))
+      (among-cases x own-events (eventsOf xs) k) in
+      answers-same (allStart false span ys) (suits false (xs) own span) t (steps n (latestOf false span ys) t) (fitting false (xs) own span t) (λ x l. sym (suits-on false (xs) own span x))
       (steps-mean (allStart false span ys) (latestOf false span ys) closingPoints (λ u. latest-wider (allStart false span ys) (eventsOf ys) closingPoints u (latestOf false span ys u) wider (latest-says false span ys u sound)) t n (omega (arith, closing-length)))
-      (fitting-answers false (sharesOf b es) own span t (entries-valid b v es on) w)
+      (fitting-answers false (xs) own span t (entries-valid b v es on) w)

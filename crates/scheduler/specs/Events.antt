@@ -1,7 +1,7 @@
 -- The instants at which something can first start: a window start, a block end, a booking end of some diary, or an arrival.
 use mathlib.Core.Path.{_≡_, refl, sym, _∙_}
 use mathlib.Core.Bool.{Bool, true, false, _||_, cond}
-use mathlib.Core.List.{List, [], _∷_, _++_}
+use mathlib.Core.List.{List, [], _∷_, _++_, map}
 use mathlib.Core.Logic.{_⊎_, inl, inr, ⊎-elim}
 use Prim.Native.Nat.{ℕ, zero, suc, _+_, _≤_, _<_}
 use native.Mathlib.Omega.{arith}
@@ -16,16 +16,20 @@ use Rattle.scheduler.specs.Alone.{Share}
 use Rattle.scheduler.specs.Fitting.{among}
 use Rattle.scheduler.specs.Lists.{each-end, each-on}
 use Rattle.scheduler.specs.Together.{Calm}
-use Rattle.scheduler.specs.Tests.{or-left, or-right}
+use Rattle.scheduler.specs.Tests.{or-left, or-right, or-in-left, or-in-right, or-cases}
 
 unfoldable pub events : ResourceTimeline → List ℕ
 events t =
     take (t .calendar .windows .len) (t .calendar .windows .starts)
     ++ (take (t .calendar .blocks .len) (t .calendar .blocks .ends) ++ take (t .len) (t .ends))
 
-unfoldable pub eventsOf : List Share → List ℕ
-eventsOf [] = []
-eventsOf (x ∷ xs) = events (x .timeline) ++ eventsOf xs
+-- on several diaries
+unfoldable pub eventsIn : List ResourceTimeline → List ℕ
+eventsIn [] = []
+eventsIn (t ∷ ts) = events t ++ eventsIn ts
+
+abbrev pub eventsOf : List Share → List ℕ
+eventsOf xs = eventsIn (map (λ x. x .timeline) xs)
 
 pub among-append : (n : ℕ) (xs ys : List ℕ) → among n (xs ++ ys) ≡ among n xs || among n ys
 unfolding among
@@ -35,6 +39,22 @@ among-append n (x ∷ xs) ys = go (eqb x n) (among-append n xs ys)
     go : (p : Bool) → among n (xs ++ ys) ≡ among n xs || among n ys → p || among n (xs ++ ys) ≡ (p || among n xs) || among n ys
     go true e = refl
     go false e = e
+
+pub among-left : (n : ℕ) (xs ys : List ℕ) → among n xs ≡ true → among n (xs ++ ys) ≡ true
+among-left n xs ys e = among-append n xs ys ∙ or-in-left (among n xs) (among n ys) e
+
+pub among-right : (n : ℕ) (xs ys : List ℕ) → among n ys ≡ true → among n (xs ++ ys) ≡ true
+among-right n xs ys e = among-append n xs ys ∙ or-in-right (among n xs) (among n ys) e
+
+pub among-cases : (n : ℕ) (xs ys : List ℕ) → among n (xs ++ ys) ≡ true → (among n xs ≡ true) ⊎ (among n ys ≡ true)
+among-cases n xs ys e = or-cases (among n xs) (among n ys) (sym (among-append n xs ys) ∙ e)
+
+-- an event on one of them is one of all
+pub event-among : {A : Type 0} (f : A → ResourceTimeline) (d : A) → events (f d) ≡ [] → (xs : List A) (i x : ℕ) → among x (events (f (getD xs i d))) ≡ true → among x (eventsIn (map f xs)) ≡ true
+unfolding eventsIn among
+event-among f d z [] i x e = absurd (not-both true refl (sym (rw z at e)))
+event-among f d z (y ∷ ys) zero x e = among-left x (events (f y)) (eventsIn (map f ys)) e
+event-among f d z (y ∷ ys) (suc i) x e = among-right x (events (f y)) (eventsIn (map f ys)) (event-among f d z ys i x e)
 
 among-get : (y n : ℕ) (xs : List ℕ) (k : ℕ) → among (suc y) (take n xs) ≡ false → k < n → getD xs k 0 ≡ suc y → ⊥
 unfolding among
@@ -62,7 +82,7 @@ still-else t y e =
     }
 
 pub calm-else : (xs : List Share) (y : ℕ) → among (suc y) (eventsOf xs) ≡ false → Calm (suc y) xs
-unfolding eventsOf
+unfolding eventsIn
 calm-else [] y e = each-end
 calm-else (x ∷ xs) y e =
     let p = sym (among-append (suc y) (events (x .timeline)) (eventsOf xs)) ∙ e in

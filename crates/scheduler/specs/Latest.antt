@@ -1,12 +1,11 @@
 -- The least start on one diary and on several, without any bound, and the latest of several least starts, by which the Rust's rounds go: no
 -- instant before it suits all, and where it is the instant asked from, that suits all.
 use mathlib.Core.Path.{_≡_, refl, sym, ap, _∙_}
-use mathlib.Core.Bool.{Bool, true, false, _&&_, _||_}
+use mathlib.Core.Bool.{Bool, true, false, _&&_}
 use mathlib.Core.List.{List, [], _∷_, _++_}
 use mathlib.Core.Logic.{_⊎_, inl, inr, ⊎-elim}
-use Prim.Native.Nat.{ℕ, _*_, _≤_, _<_, max}
+use Prim.Native.Nat.{ℕ, _≤_, _<_, max}
 use native.Mathlib.Omega.{arith}
-use lib.ListN.{length, length-append}
 use Rattle.calendar.specs.Limits.{lastInstant}
 use Rattle.calendar.specs.Every.{every}
 use Rattle.calendar.specs.Basics.{and-split, and-join, no-way, not-both, lt-or-ge}
@@ -24,9 +23,7 @@ use Rattle.scheduler.specs.Shares.{startOn, noShare}
 use Rattle.scheduler.specs.Lists.{each-end, each-on}
 use Rattle.scheduler.specs.Arrays.{each-at}
 use Rattle.scheduler.specs.Together.{Sound, can-back}
-use Rattle.scheduler.specs.Events.{events, eventsOf, among-append, still-else, least-listed}
-use Rattle.scheduler.specs.Ruled.{events-length}
-use Rattle.scheduler.specs.Tests.{or-in-left, or-in-right}
+use Rattle.scheduler.specs.Events.{events, eventsIn, eventsOf, among-left, among-right, still-else, least-listed}
 
 -- the least start on one diary
 pub start-answers : (resumable : Bool) (span : ℕ) (x : Share) (t : ℕ) → valid (x .timeline) ≡ true → Answers (canStart resumable span x) t (startOn resumable span x t)
@@ -67,7 +64,7 @@ start-listed resumable span x t s w =
     least-listed (canStart resumable span x) (events (x .timeline)) t s (λ y l e h. can-back resumable span x y (still-else (x .timeline) y e) h) w
 
 pub latest-says : (resumable : Bool) (span : ℕ) (xs : List Share) (t : ℕ) → Sound xs → Latest (allStart resumable span xs) (eventsOf xs) t (latestOf resumable span xs t)
-unfolding latestOf allStart eventsOf later every
+unfolding latestOf allStart eventsIn later every
 latest-says resumable span [] t each-end = record { low = omega arith; none = λ y l m. absurd (omega arith); here = λ e. refl; listed = inl refl }
 latest-says resumable span (x ∷ xs) t (each-on v s) = go (startOn resumable span x t) (latestOf resumable span xs t) (start-answers resumable span x t v) (latest-says resumable span xs t s)
   where
@@ -91,17 +88,14 @@ latest-says resumable span (x ∷ xs) t (each-on v s) = go (startOn resumable sp
           let p : a ≡ t = omega (arith, w .low, z .low) in
           let q : b ≡ t = omega (arith, w .low, z .low) in
           and-join (Q t) (R t) (ap Q (sym p) ∙ w .holds) (z .here q);
-      listed = ⊎-elim (λ (n : a < b). let e : max a b ≡ b = omega arith in rw e (second n)) (λ (n : b ≤ a). let e : max a b ≡ a = omega arith in rw e first) (lt-or-ge a b);
+      listed = ⊎-elim (λ (n : a < b). let e : max a b ≡ b = omega arith in rw e second) (λ (n : b ≤ a). let e : max a b ≡ a = omega arith in rw e first) (lt-or-ge a b);
     }
       where
-        join : (n : ℕ) → among n (events (x .timeline) ++ eventsOf xs) ≡ among n (events (x .timeline)) || among n (eventsOf xs)
-        join n = among-append n (events (x .timeline)) (eventsOf xs)
-
         first : (a ≡ t) ⊎ (among a (events (x .timeline) ++ eventsOf xs) ≡ true)
-        first = ⊎-elim (λ (e : a ≡ t). inl e) (λ (e : among a (events (x .timeline)) ≡ true). inr (join a ∙ or-in-left (among a (events (x .timeline))) (among a (eventsOf xs)) e)) (start-listed resumable span x t a w)
+        first = ⊎-elim inl (λ (e : among a (events (x .timeline)) ≡ true). inr (among-left a (events (x .timeline)) (eventsOf xs) e)) (start-listed resumable span x t a w)
 
-        second : a < b → (b ≡ t) ⊎ (among b (events (x .timeline) ++ eventsOf xs) ≡ true)
-        second n = ⊎-elim (λ (e : b ≡ t). inl e) (λ (e : among b (eventsOf xs) ≡ true). inr (join b ∙ or-in-right (among b (events (x .timeline))) (among b (eventsOf xs)) e)) (z .listed)
+        second : (b ≡ t) ⊎ (among b (events (x .timeline) ++ eventsOf xs) ≡ true)
+        second = ⊎-elim inl (λ (e : among b (eventsOf xs) ≡ true). inr (among-right b (events (x .timeline)) (eventsOf xs) e)) (z .listed)
 
     go : (f g : Found) → Answers Q t f → Latest R (eventsOf xs) t g → Latest (λ y. Q y && R y) (events (x .timeline) ++ eventsOf xs) t (later f g)
     go nothing g w z = λ y l. no-first y (w y l)
@@ -119,9 +113,3 @@ sought-never P from t s f y a = ⊎-elim (λ (m : y < t). s .none y a m) (λ (m 
 pub last-small : (xs : List Share) → Sound xs → lastOf xs ≤ lastInstant
 unfolding lastOf
 last-small xs s = greatest-most (λ (x : Share). lastEvent (x .timeline)) noShare xs lastInstant (λ k l. last-range _ (rules _ (each-at (λ x. valid (x .timeline) ≡ true) noShare xs s k l)))
-
--- diaries that keep the rules have at most 128 events each
-pub events-count : (xs : List Share) → Sound xs → length (eventsOf xs) ≤ 128 * length xs
-unfolding eventsOf
-events-count [] each-end = omega arith
-events-count (x ∷ xs) (each-on v s) = omega (arith, length-append (events (x .timeline)) (eventsOf xs), events-length (x .timeline) v, events-count xs s)

@@ -1,7 +1,11 @@
 -- What holds of each element of a list, or of the elements of two lists one by one.
+use mathlib.Core.Path.{_≡_}
+use mathlib.Core.Bool.{Bool, true}
 use mathlib.Core.List.{List, [], _∷_, _++_, map}
 use Prim.Native.Nat.{ℕ, zero, suc}
 use lib.ListN.{take}
+use Rattle.calendar.specs.Basics.{and-split}
+use Rattle.calendar.specs.Every.{every}
 
 -- P holds of each
 pub data Each {A : Type 0} (P : A → Type 0) : List A → Type 0 where
@@ -24,6 +28,12 @@ each-take P (suc k) (x ∷ xs) (each-on p a) = each-on p (each-take P k xs a)
 pub each-weaken : {A : Type 0} (P Q : A → Type 0) (xs : List A) → ((x : A) → P x → Q x) → Each P xs → Each Q xs
 each-weaken P Q [] f each-end = each-end
 each-weaken P Q (x ∷ xs) f (each-on p a) = each-on (f x p) (each-weaken P Q xs f a)
+
+-- of a list all of which pass a test
+pub each-every : {A : Type 0} (P : A → Bool) (xs : List A) → every P xs ≡ true → Each (λ x. P x ≡ true) xs
+unfolding every
+each-every P [] e = each-end
+each-every P (x ∷ xs) e = let w = and-split (P x) (every P xs) e in each-on (w .0) (each-every P xs (w .1))
 
 -- of the images of a list, and of what they are the images of
 pub each-in-map : {A B : Type 0} (P : B → Type 0) (f : A → B) (xs : List A) → Each (λ x. P (f x)) xs → Each P (map f xs)

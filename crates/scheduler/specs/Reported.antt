@@ -18,7 +18,7 @@ use Rattle.scheduler.specs.Alone.{companionsOf}
 use Rattle.scheduler.specs.Choosing.{sort, Held, heldFor, holdFirst}
 use Rattle.scheduler.specs.Fitting.{numbersOf, durationTogether, heldEntry, heldEntries, among, joinEach, allCompanions, companionEntry, companionEntries, entriesOf, sharesOf}
 use Rattle.scheduler.specs.Plain.{startsThere, candidateAt, startable, heldAt}
-use Rattle.scheduler.specs.Lists.{Each, each-end, each-on, each-append, each-take, each-weaken, each-in-map}
+use Rattle.scheduler.specs.Lists.{Each, each-end, each-on, each-append, each-take, each-every, each-weaken, each-in-map}
 use Rattle.scheduler.specs.Arrays.{each-cells}
 use Rattle.scheduler.specs.Together.{Sound}
 use Rattle.scheduler.specs.Ranking.{each-sort}
@@ -57,15 +57,10 @@ module _ (b : Board) where
   abbrev On : ℕ → Type 0
   On n = onBoard b n ≡ true
 
-  all-on : (cs : List ℕ) → every (onBoard b) cs ≡ true → Each On cs
-  unfolding every
-  all-on [] e = each-end
-  all-on (c ∷ cs) e = let w = and-split (onBoard b c) (every (onBoard b) cs) e in each-on (w .0) (all-on cs (w .1))
-
   companions-on : (hs : List Held) → Each (λ h. Whole (h .resource)) hs → Each On (allCompanions hs)
   unfolding allCompanions
   companions-on [] each-end = each-end
-  companions-on (h ∷ hs) (each-on p z) = each-append On (companionsOf (h .resource)) (allCompanions hs) (all-on (companionsOf (h .resource)) (p .companions)) (companions-on hs z)
+  companions-on (h ∷ hs) (each-on p z) = each-append On (companionsOf (h .resource)) (allCompanions hs) (each-every (onBoard b) (companionsOf (h .resource)) (p .companions)) (companions-on hs z)
 
   join-on : (held joined cs : List ℕ) → Each On joined → Each On cs → Each On (joinEach held joined cs)
   unfolding joinEach
