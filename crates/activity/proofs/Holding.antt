@@ -21,12 +21,12 @@ use Rattle.activity.specs.Lawful.{LawfulTiming, LawfulLead, leadingOf}
 use Rattle.speeds.proofs.Bounds.{within-more, within-mul, speed-within, one-within}
 
 -- one timing more: the product stays from 4 ^ -k to 4 ^ k, and what leads stays short
-pub times-within : (k : ℕ) (p : Float) (t : ResourceTiming) → k + 1 ≤ 26 → Within k p → LawfulTiming t → Within (k + 1) (times p t)
+times-within : (k : ℕ) (p : Float) (t : ResourceTiming) → k + 1 ≤ 26 → Within k p → LawfulTiming t → Within (k + 1) (times p t)
 times-within k p Nothing h w l = within-more k (k + 1) p (omega arith) w
 times-within k p (Speed s) h w l = within-mul k 1 p s h w (speed-within s (subst T (sym l) tt))
 times-within k p (Duration d) h w l = within-more k (k + 1) p (omega arith) w
 
-pub greater-lawful : (f : Leading) (t : ResourceTiming) → LawfulLead f → LawfulTiming t → LawfulLead (greater f t)
+greater-lawful : (f : Leading) (t : ResourceTiming) → LawfulLead f → LawfulTiming t → LawfulLead (greater f t)
 greater-lawful f Nothing h l = h
 greater-lawful f (Speed s) h l = h
 greater-lawful nobody (Duration d) h l = l
@@ -42,7 +42,7 @@ module _ (timings : List Timed) (held : List ℕ) (count : ℕ) where
   all = take count held
 
   pub record Walk (speed : Float) (lead : Leading) (i : ℕ) : Type 0 where
-    pub multiplied : product speed (heldTimings timings (drop i all)) ≡ product one (heldTimings timings all)
+    multiplied : product speed (heldTimings timings (drop i all)) ≡ product one (heldTimings timings all)
     pub led : greatest lead (heldTimings timings (drop i all)) ≡ greatest nobody (heldTimings timings all)
     pub range : Within i speed
     pub lawful : LawfulLead lead

@@ -22,10 +22,10 @@ use Rattle.activity.specs.Lawful.{Short, LawfulTiming, Lawful}
 use Rattle.activity.specs.Check.{noRequirement}
 
 -- the timings of an order in range
-abbrev pub allShort : Activity → Bool
+abbrev allShort : Activity → Bool
 allShort a = every (λ t. timingShort (t .timing)) (a .timings)
 
-abbrev pub allSpeeds : Activity → Bool
+abbrev allSpeeds : Activity → Bool
 allSpeeds a = every (λ t. timingSpeed (t .timing)) (a .timings)
 
 module _ (a : Activity) (ready : ℕ) where
@@ -82,7 +82,7 @@ module _ (a : Activity) (ready : ℕ) where
           unfolding activityRefusal
           not-refused u e = sym (rw (le-ltb 15 (a .category) g, t, le-ltb 4 (a .len) l, q, u, e) refl)
 
-pub short-says : (d : ActivityDuration) → short d ≡ true → Short d
+short-says : (d : ActivityDuration) → short d ≡ true → Short d
 unfolding short
 short-says d e =
     let v = and-split (leb (d .setup) (2 ^ 36)) (leb (d .process) (2 ^ 36) && leb (d .teardown) (2 ^ 36)) e in
@@ -124,7 +124,7 @@ module _ (a : Activity) (ready : ℕ) (e : activityRefusal a ready ≡ 0) where
     pub times : timesRight a ready ≡ true
     pub few : ltb 4 (a .len) ≡ false
     pub quantities : quantitiesRight (requirementsOf a) ≡ true
-    pub usages : every usageRight (requirementsOf a) ≡ true
+    usages : every usageRight (requirementsOf a) ≡ true
     pub speeds : allSpeeds a ≡ true
 
   passed : Passed

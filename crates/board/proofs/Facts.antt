@@ -22,7 +22,7 @@ resource-number r h = leb-true (r .number) 15 (and-split _ _ h .0)
 
 -- cell i by the length
 module _ (b : Board) (i : ℕ) where
-  pub cell-is : i < b .len → cellRight b i ≡ resourceRight (resourceAt b i) && not (isAt (lookupTo b i (numberAt b i)))
+  cell-is : i < b .len → cellRight b i ≡ resourceRight (resourceAt b i) && not (isAt (lookupTo b i (numberAt b i)))
   unfolding cellRight
   cell-is l = rw (lt-ltb i (b .len) l) refl
 

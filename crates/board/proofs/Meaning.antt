@@ -80,7 +80,7 @@ cell-facts ms p q h =
     let w = and-split (leb ms (2 ^ 36)) (p && q || eqb ms 0) h in
     (leb-true ms (2 ^ 36) (w .0), λ e. eqb-true ms 0 (rw e at (w .1)))
 
-pub transport-fact : (b : Board) → valid b ≡ true → (k : ℕ) → k < 256
+transport-fact : (b : Board) → valid b ≡ true → (k : ℕ) → k < 256
     → (getD (b .transport) k 0 ≤ 2 ^ 36) × (onBoard b (k / 16) && onBoard b (k % 16) ≡ false → getD (b .transport) k 0 ≡ 0)
 unfolding transportRight
 transport-fact b v k l = cell-facts (getD (b .transport) k 0) (onBoard b (k / 16)) (onBoard b (k % 16)) (rules b v .transport k l)

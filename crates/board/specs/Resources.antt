@@ -26,7 +26,7 @@ noDiary = record {
   booked = 0;
 }
 
-abbrev pub noMatrix : TransitionMatrix
+abbrev noMatrix : TransitionMatrix
 noMatrix = record { present = false; default = pos 0; initial = pos 0; transitions = []; initials = [] }
 
 abbrev pub noResource : Resource

@@ -63,10 +63,10 @@ module _ (b : Board) (number : ℕ) where
           record { number-refusal = rw (v, g) refl; rules-kept = λ z. v; stands = λ z. g; low = λ z. (l, omega (arith, on-small b number v (rw g refl))) }
 
   -- the refusal of a number, then the rest
-  pub refused-place : (r : PlaceFor) (rest : Answer) → Located b number r → (r .refusal ≡ 0 → ⊥) → Refused (r .refusal) ≡ refusedOr Refused (placeRefusal b number) rest
+  refused-place : (r : PlaceFor) (rest : Answer) → Located b number r → (r .refusal ≡ 0 → ⊥) → Refused (r .refusal) ≡ refusedOr Refused (placeRefusal b number) rest
   refused-place r rest q h = rw (← q .number-refusal) (refused-by Refused (r .refusal) rest h)
 
-  pub taken-place : (r : PlaceFor) (a rest : Answer) → Located b number r → r .refusal ≡ 0 → a ≡ rest → a ≡ refusedOr Refused (placeRefusal b number) rest
+  taken-place : (r : PlaceFor) (a rest : Answer) → Located b number r → r .refusal ≡ 0 → a ≡ rest → a ≡ refusedOr Refused (placeRefusal b number) rest
   unfolding refusedOr
   taken-place r a rest q h e = rw (sym (q .number-refusal) ∙ h) e
 
@@ -139,7 +139,7 @@ pub ask-none : (k : ℕ) → (k ≡ 40 → ⊥) → (k ≡ 41 → ⊥) → (k �
 unfolding askLen
 ask-none k a b d e = rw (ne-eqb k 40 a, ne-eqb k 41 b, ne-eqb k 42 d, ne-eqb k 43 e) refl
 
-pub ask-some : (k : ℕ) → 40 ≤ k → k ≤ 43 → 0 < askLen k
+ask-some : (k : ℕ) → 40 ≤ k → k ≤ 43 → 0 < askLen k
 ask-some k l h =
     ⊎-elim (λ (e : 40 ≡ k). omega (arith, ask-40 k (sym e)))
     (λ (a : 40 < k).

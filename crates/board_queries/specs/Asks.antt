@@ -63,7 +63,7 @@ unfoldable pub askLen : ℕ → ℕ
 askLen kind = cond (eqb kind 40) 9 (cond (eqb kind 41) 11 (cond (eqb kind 42) 3 (cond (eqb kind 43) 12 0)))
 
 -- quantity and usage play no part in serving
-abbrev pub requirementOf : List ℕ → ℕ → ResourceRequirement
+abbrev requirementOf : List ℕ → ℕ → ResourceRequirement
 requirementOf bs i = record { kind = byte bs i; candidates = little bs (i + 1) 2; skills = little bs (i + 3) 8; quantity = 1; usage = 1 }
 
 unfoldable pub askReply : Desk → ℕ → List ℕ → ℕ → Answer

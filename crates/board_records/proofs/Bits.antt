@@ -52,13 +52,13 @@ pub back : (z : ℤ) (n : ℕ) → z ≡ signed n → n < 256 ^ 8 → toZ w64 (o
 back z n e h = toZ-ofZ w64 z (subst (λ (y : ℤ). SFits w64 y) (sym e) (signed-fits n h)) ∙ e
 
 -- the bits of a double with the sign's dropped are above an infinity's exactly for a NaN
-pub is-nan : (n : ℕ) → 9218868437227405312 < n % 9223372036854775808 → nanBits binary64 n ≡ true
+is-nan : (n : ℕ) → 9218868437227405312 < n % 9223372036854775808 → nanBits binary64 n ≡ true
 is-nan n h = nanBits-above binary64 n ∙ lt-ltb (ones binary64 * hid binary64) (n % top binary64) h
 
 pub no-nan : (n : ℕ) → n % 9223372036854775808 ≤ 9218868437227405312 → nanBits binary64 n ≡ false
 no-nan n h = nanBits-above binary64 n ∙ le-ltb (ones binary64 * hid binary64) (n % top binary64) h
 
-pub the-nan : (x : Float) → isNan x ≡ true → nan ≡ x
+the-nan : (x : Float) → isNan x ≡ true → nan ≡ x
 unfolding isNan
 the-nan nan e = refl
 the-nan (inf s) e = absurd (subst (λ (b : Bool). T (not b)) e tt)

@@ -6,7 +6,7 @@ use Rattle.bodies.specs.Bodies.{fixedLen, lenOf, whole, bodyLen}
 use Rattle.board_records.specs.Records.{signed}
 
 -- -1, the least and the greatest signed number
-pub signs : (signed 18446744073709551615 ∷ signed 9223372036854775808 ∷ signed 9223372036854775807 ∷ []) ≡ negsuc 0 ∷ negsuc 9223372036854775807 ∷ pos 9223372036854775807 ∷ []
+signs : (signed 18446744073709551615 ∷ signed 9223372036854775808 ∷ signed 9223372036854775807 ∷ []) ≡ negsuc 0 ∷ negsuc 9223372036854775807 ∷ pos 9223372036854775807 ∷ []
 unfolding signed
 signs = refl
 

@@ -138,7 +138,7 @@ nine k l h =
     ⊎-elim (λ (e : 23 ≡ k). omega (arith, fixed-at k 23 (sym e))) (λ (b : 23 < k). omega (arith, fixed-at k 24 (omega arith))) (eq-or-lt-of-le (omega arith)))
     (eq-or-lt-of-le l)
 
-pub whole-le : (rest len : ℕ) → whole rest len ≤ rest
+whole-le : (rest len : ℕ) → whole rest len ≤ rest
 whole-le rest len =
     ⊎-elim (λ (a : rest < len). omega (arith, whole-cut rest len a)) (λ (a : len ≤ rest). omega (arith, whole-there rest len a)) (lt-or-ge rest len)
 

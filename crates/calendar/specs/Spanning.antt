@@ -31,7 +31,7 @@ span-from l i (suc n) (suc k) j d h e = span-from l (suc i) n k j d (omega arith
 pub span-at : (l : TimeWindows) (k : ℕ) (d : Span) → k < l .len → getD (spans l) k d ≡ spanAt l k
 span-at l k d h = span-from l 0 (l .len) k k d h (omega arith)
 
-pub any-step : (P : Span → Bool) (l : TimeWindows) (i n : ℕ) → i < n → any P (spansFrom l i (n - i)) ≡ P (spanAt l i) || any P (spansFrom l (i + 1) (n - (i + 1)))
+any-step : (P : Span → Bool) (l : TimeWindows) (i n : ℕ) → i < n → any P (spansFrom l i (n - i)) ≡ P (spanAt l i) || any P (spansFrom l (i + 1) (n - (i + 1)))
 unfolding any spansFrom
 any-step P l i n h =
     let e : n - i ≡ suc (n - (i + 1)) = omega arith in
@@ -133,7 +133,7 @@ pub meets-yes : (s e : ℕ) (w : Span) → w .start < e → s < w .end → meets
 unfolding meets
 meets-yes s e w a b = simp (lt-ltb _ _ a, lt-ltb _ _ b)
 
-pub meets-facts : (s e : ℕ) (w : Span) → meets s e w ≡ true → (w .start < e) × (s < w .end)
+meets-facts : (s e : ℕ) (w : Span) → meets s e w ≡ true → (w .start < e) × (s < w .end)
 unfolding meets
 meets-facts s e w t = let h = and-split (ltb (w .start) e) (ltb s (w .end)) t in (ltb-true _ _ (h .0), ltb-true _ _ (h .1))
 

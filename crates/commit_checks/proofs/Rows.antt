@@ -25,7 +25,7 @@ use Rattle.board.specs.Places.{Known, Lengths}
 use Rattle.commit_checks.specs.Lines.{numbered, metered, roomy, Counted}
 
 -- the lines are the first rows, read one by one
-pub lines-rows : (n : ℕ) (slate : List (List ℕ)) → linesOf n slate ≡ map lineOf (take n slate)
+lines-rows : (n : ℕ) (slate : List (List ℕ)) → linesOf n slate ≡ map lineOf (take n slate)
 unfolding linesOf
 lines-rows n slate = refl
 

@@ -44,7 +44,7 @@ book-taken t start end category u v room w some few =
     rw (v, s, e, o, m, n, f) refl
 
 -- the resource with another diary and last category
-abbrev pub diaryAnd : Resource → ResourceTimeline → LastCategory → Resource
+abbrev diaryAnd : Resource → ResourceTimeline → LastCategory → Resource
 diaryAnd r t last = record {
   number = r .number;
   kind = r .kind;
@@ -71,7 +71,7 @@ module _ (r : Resource) (t : ResourceTimeline) (start end category : ℕ) (l : L
   booked-plain p = rw (e, p) refl
 
 -- the lines that are left
-pub lines-left : (slate : List (List ℕ)) (i count : ℕ) → i < count → count ≤ length slate
+lines-left : (slate : List (List ℕ)) (i count : ℕ) → i < count → count ≤ length slate
     → linesOf (count - i) (drop i slate) ≡ lineOf (getD slate i []) ∷ linesOf (count - (i + 1)) (drop (i + 1) slate)
 unfolding linesOf
 lines-left slate i count l m =

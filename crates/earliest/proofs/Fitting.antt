@@ -27,7 +27,7 @@ module _ (t : ResourceTimeline) (v : valid t ≡ true) (from span u : ℕ) where
   unfolding earliestFit
   fit-found x s h = sought-found (fitsAt t span u) from (lastEvent t) (λ y l. fits-at-back t span u y (last-still t (rules t v) y l)) x s h
 
-  pub fit-none : (x : ℕ) → from ≤ lastAsked → never ≤ x → Sought (fitsAt t span u) from x → earliestFit t from span u ≡ nothing
+  fit-none : (x : ℕ) → from ≤ lastAsked → never ≤ x → Sought (fitsAt t span u) from x → earliestFit t from span u ≡ nothing
   unfolding earliestFit
   fit-none x a b s = sought-none (fitsAt t span u) from (lastEvent t) x s (omega (arith, last-range t (rules t v)))
 

@@ -60,7 +60,7 @@ module _ (t : ResourceTimeline) (p : Plain t) (d : ℕ) where
           rw (free-no (t .capacity) (bookings t) 1 y (y + d) q w (omega (arith, p .one, rules t (p .keeps) .filled k l .some))) (and-false (fits (t .calendar) y (y + d)))
 
   -- none in the way
-  pub clear : (y : ℕ) → ((k : ℕ) → k < t .len → (getD (t .ends) k 0 ≤ y) ⊎ (y + d ≤ getD (t .starts) k 0)) → fitsAt t d 1 y ≡ true
+  clear : (y : ℕ) → ((k : ℕ) → k < t .len → (getD (t .ends) k 0 ≤ y) ⊎ (y + d ≤ getD (t .starts) k 0)) → fitsAt t d 1 y ≡ true
   unfolding fitsAt load
   clear y f =
       and-join _ _ (always (t .calendar) y (y + d) (p .windows) (p .blocks))

@@ -199,7 +199,7 @@ module _ (b : Board) (r : Resource) (long : length (b .resources) ≡ 16) (v : v
   wider k t =
       widened (getD (b .transport) k 0) (onBoard b (k / 16)) (onBoard b (k % 16)) _ _ (λ o. still-on (k / 16) o) (λ o. still-on (k % 16) o) t
 
-  pub valid-new : valid (withNew b r) ≡ true
+  valid-new : valid (withNew b r) ≡ true
   unfolding withNew
   valid-new =
       let u = rules b v in
@@ -224,14 +224,14 @@ third : (v o q : Bool) → _≡_ {A = ℕ} (cond (not v) 15 (cond (not o) 5 (con
 third v o q e = not-false q (unrefused (not q) 0 0 (unrefused (not o) 4 _ (unrefused (not v) 14 _ e .1) .1) .0)
 
 module _ (b : Board) (long : length (b .resources) ≡ 16) (v : valid b ≡ true) where
-  pub set-matrix-keeps : (number : ℕ) (d i : ℤ) → valid (setMatrixReply b number d i .board) ≡ true
+  set-matrix-keeps : (number : ℕ) (d i : ℤ) → valid (setMatrixReply b number d i .board) ≡ true
   unfolding setMatrixReply matrixRefusal
   set-matrix-keeps number d i =
       entered-keeps _ b _ v (λ z.
       let w = and-split (durationRight d) (durationRight i) (third (valid b) (onBoard b number) (durationRight d && durationRight i) z) in
       changed-keeps b number (withMatrix (newMatrix d i)) long v (λ k l. (remade _ _ (rules b v .right k l) (new-right d i (w .0) (w .1)), refl)))
 
-  pub set-transition-keeps : (number last this : ℕ) (ms : ℤ) → valid (setTransitionReply b number last this ms .board) ≡ true
+  set-transition-keeps : (number last this : ℕ) (ms : ℤ) → valid (setTransitionReply b number last this ms .board) ≡ true
   unfolding setTransitionReply entryRefusal
   set-transition-keeps number last this ms =
       entered-keeps _ b _ v (λ z.
@@ -241,7 +241,7 @@ module _ (b : Board) (long : length (b .resources) ≡ 16) (v : valid b ≡ true
       let o = of-right (resourceAt b k .matrix) (resource-rules _ r .matrix) in
       (remade _ _ r (transition-right _ last this ms (o .1) (o .0) w), refl)))
 
-  pub set-initial-keeps : (number category : ℕ) (ms : ℤ) → valid (setInitialReply b number category ms .board) ≡ true
+  set-initial-keeps : (number category : ℕ) (ms : ℤ) → valid (setInitialReply b number category ms .board) ≡ true
   unfolding setInitialReply entryRefusal
   set-initial-keeps number category ms =
       entered-keeps _ b _ v (λ z.
@@ -251,7 +251,7 @@ module _ (b : Board) (long : length (b .resources) ≡ 16) (v : valid b ≡ true
       let o = of-right (resourceAt b k .matrix) (resource-rules _ r .matrix) in
       (remade _ _ r (initial-right _ category ms (o .1) (o .0) w), refl)))
 
-  pub put-timeline-keeps : (number : ℕ) (t : ResourceTimeline) → valid (putTimelineReply b number t .board) ≡ true
+  put-timeline-keeps : (number : ℕ) (t : ResourceTimeline) → valid (putTimelineReply b number t .board) ≡ true
   unfolding putTimelineReply putRefusal
   put-timeline-keeps number t =
       entered-keeps _ b _ v (λ z.
@@ -259,7 +259,7 @@ module _ (b : Board) (long : length (b .resources) ≡ 16) (v : valid b ≡ true
       let u : timeline.valid t ≡ true = not-false _ (rw v at w) in
       changed-keeps b number (withTimeline t) long v (λ k l. (rewritten _ t (rules b v .right k l) u, refl)))
 
-  pub set-transport-keeps : length (b .transport) ≡ 256 → (from to ms : ℕ) → valid (setTransportReply b from to ms .board) ≡ true
+  set-transport-keeps : length (b .transport) ≡ 256 → (from to ms : ℕ) → valid (setTransportReply b from to ms .board) ≡ true
   unfolding setTransportReply
   set-transport-keeps wide from to ms = entered-keeps _ b _ v (λ z. transport-kept-with b from to ms v wide (transport-taken b from to ms z))
 

@@ -87,11 +87,11 @@ module _ (b : Board) (hs : List Selection) where
       ∙ companions-last (heldTo b hs i) (heldOf b (getD hs i noSelection))
 
   module _ (n : ℕ) (l : n ≤ length hs) where
-    pub numbers-are : (ns : List ℕ) → n ≤ length ns → ((k : ℕ) → k < n → getD ns k 0 ≡ on k .number) → take n ns ≡ numbersOf (heldTo b hs n)
+    numbers-are : (ns : List ℕ) → n ≤ length ns → ((k : ℕ) → k < n → getD ns k 0 ≡ on k .number) → take n ns ≡ numbersOf (heldTo b hs n)
     unfolding heldOf
     numbers-are ns m h = cells-map (λ x. resourceAt b (x .place) .number) noSelection 0 n hs ns l m h ∙ sym (map-map numberOf (heldOf b) (take n hs))
 
-    pub entries-are : (category own : ℕ) (p : Parts) (es : List Entry) → n ≤ length es → Parted b category hs n p → ((k : ℕ) → k < n → getD es k noEntry ≡ setupAt p hs own k) → take n es ≡ heldEntries category own (heldTo b hs n)
+    entries-are : (category own : ℕ) (p : Parts) (es : List Entry) → n ≤ length es → Parted b category hs n p → ((k : ℕ) → k < n → getD es k noEntry ≡ setupAt p hs own k) → take n es ≡ heldEntries category own (heldTo b hs n)
     unfolding heldOf
     entries-are category own p es m d h =
         cells-map (λ x. heldEntry category own (heldOf b x)) noSelection noEntry n hs es l m (λ k i. h k i ∙ rw (d .numbers k i, d .setups k i own) refl)

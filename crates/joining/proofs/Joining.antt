@@ -17,7 +17,7 @@ use Rattle.scheduler.specs.Tests.{or-right}
 use Rattle.joining.specs.Cells.{noEntry, numberIn, Small}
 use Rattle.scheduler.specs.Arrays.{take-next, take-split, each-at}
 
-pub join-last : (held joined cs : List ℕ) (c : ℕ) → joinEach held joined (cs ++ (c ∷ [])) ≡ cond (among c held || among c (joinEach held joined cs)) (joinEach held joined cs) (joinEach held joined cs ++ (c ∷ []))
+join-last : (held joined cs : List ℕ) (c : ℕ) → joinEach held joined (cs ++ (c ∷ [])) ≡ cond (among c held || among c (joinEach held joined cs)) (joinEach held joined cs) (joinEach held joined cs ++ (c ∷ []))
 unfolding joinEach
 join-last held joined [] c = refl
 join-last held joined (x ∷ cs) c = join-last held (cond (among x held || among x joined) joined (joined ++ (x ∷ []))) cs c
@@ -52,7 +52,7 @@ module _ (es : List Entry) (n : ℕ) (js : List ℕ) (xs : List Entry) (k : ℕ)
   joined-few = omega (arith, j .first, j .count, j .once, count-most (λ n. among n js) 16)
 
   -- those already there
-  pub joined-numbers : (c : ℕ) → among c (map numberIn (take k xs)) ≡ among c (map numberIn es) || among c js
+  joined-numbers : (c : ℕ) → among c (map numberIn (take k xs)) ≡ among c (map numberIn es) || among c js
   joined-numbers c =
       ap (λ (ys : List Entry). among c (map numberIn ys)) (j .entries)
       ∙ ap (among c) (map-append numberIn es (map companionEntry js) ∙ ap (λ (ys : List ℕ). map numberIn es ++ ys) (map-map numberIn companionEntry js ∙ map-id js))
@@ -62,10 +62,10 @@ module _ (es : List Entry) (n : ℕ) (js : List ℕ) (xs : List Entry) (k : ℕ)
     more : length (js ++ (c ∷ [])) ≡ tally (js ++ (c ∷ [])) 16
     more = length-append js (c ∷ []) ∙ sym (tally-more js c new 16 ∙ rw (lt-ltb c 16 l) (omega (arith, j .once)))
 
-    pub joined-room : k < 24
+    joined-room : k < 24
     joined-room = omega (arith, j .first, j .count, more, length-append js (c ∷ []), count-most (λ n. among n (js ++ (c ∷ []))) 16)
 
-    pub joined-on : Joined es n (js ++ (c ∷ [])) (set xs k (companionEntry c)) (k + 1)
+    joined-on : Joined es n (js ++ (c ∷ [])) (set xs k (companionEntry c)) (k + 1)
     joined-on = record {
       long = length-set xs k (companionEntry c) ∙ j .long;
       first = j .first;

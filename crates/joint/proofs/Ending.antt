@@ -17,7 +17,7 @@ use Rattle.work_ends.proofs.Passing.{passed-all}
 use Rattle.work_ends.proofs.Walking.{last-most}
 
 -- past its last edge a layout changes no more
-pub laid-changeless : (xs : List ℕ) (n : ℕ) → Edges xs n → Changeless (before xs n) (laid xs n)
+laid-changeless : (xs : List ℕ) (n : ℕ) → Edges xs n → Changeless (before xs n) (laid xs n)
 unfolding laid
 laid-changeless xs n y q h =
     ap odd (passed-all xs n q (λ k l. omega (arith, last-most xs n k y l)) ∙ sym (passed-all xs n (before xs n) (λ k l. last-most xs n k y l)))

@@ -14,7 +14,7 @@ use ghost.Atoms.{Atoms}
 use types.Kit.{Given, Item, ‵, ⋆, Goal, allocs, params′, runs, atRet, Sq, _$_, _∵_, !, qed}
 use types.Run.{enter, alloc1, alloc0}
 
-abbrev pub Addrs : List Local → Type 0
+abbrev Addrs : List Local → Type 0
 Addrs [] = Unit {0}
 Addrs (local τ h ∷ ls) = ℕ × Addrs ls
 
@@ -23,7 +23,7 @@ module _ {M : Type 1} (𝓤 : URA M) (H : Heap 𝓤) where
   env [] at = []
   env (local τ h ∷ ls) at = (τ, at .0) ∷ env ls (at .1)
 
-  abbrev pub rooms : (ls : List Local) → Addrs ls → List (Item 𝓤) → List (Item 𝓤)
+  abbrev rooms : (ls : List Local) → Addrs ls → List (Item 𝓤) → List (Item 𝓤)
   rooms [] at Γ = Γ
   rooms (local τ h ∷ ls) at Γ = rooms ls (at .1) (‵ (froom τ (at .0) 0) ∷ ‵ (fdies τ (at .0)) ∷ Γ)
 

@@ -16,7 +16,7 @@ use types.Kit.{Given, Item, ⋆}
 use sound.Loop.{loop-rule}
 
 module _ {M : Type 1} (𝓤 : URA M) (H : Heap 𝓤) (A : Atoms 𝓤) {S : Type 0} (At : S → List (Item 𝓤)) (Facts : ℕ → S → Type 0) where
-  abbrev pub Inv : ℕ → SProp 𝓤
+  abbrev Inv : ℕ → SProp 𝓤
   Inv t = ex 𝓤 (λ (s : S). guard 𝓤 (Facts t s) (⋆ 𝓤 H A (At s)))
 
   abbrev pub Below : ℕ → SProp 𝓤

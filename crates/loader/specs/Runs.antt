@@ -31,7 +31,7 @@ blocked = record {
   blocks = record { starts = 0 ∷ 10 ∷ replicate 30 0; ends = 10 ∷ 20 ∷ replicate 30 0; len = 2 };
 }
 
-abbrev pub crowded : Calendar
+abbrev crowded : Calendar
 crowded = record {
   windows = record { starts = replicate 32 0; ends = replicate 31 1 ++ (0 ∷ []); len = 31 };
   blocks = record { starts = replicate 32 0; ends = replicate 32 0; len = 0 };

@@ -66,7 +66,7 @@ run (process base speed) = ms (durationOn (lasting 0 base 0) (at speed ∷ []) (
 run (place b a ready) = placement (placeReply b a ready 24)
 
 -- 1.5
-abbrev pub threeHalves : Float
+abbrev threeHalves : Float
 threeHalves = fin false 3 (negsuc 0)
 
 -- windows 0-10, 10-20; window 0-100 with block 40-60

@@ -48,7 +48,7 @@ unfolding told
 told-refused s a i h = rw (ne-eqb (s .refusal) 0 h) refl
 
 -- where the next record begins, and that no entry is shown
-pub told-plain : (t : Turn) (s : Stepped) (a : Answer) (i : ℕ) → shown a ≡ 0 → t ≡ told s a i → (t .at ≡ i) × (shown (t .answer) ≡ 0)
+told-plain : (t : Turn) (s : Stepped) (a : Answer) (i : ℕ) → shown a ≡ 0 → t ≡ told s a i → (t .at ≡ i) × (shown (t .answer) ≡ 0)
 unfolding told shown
 told-plain t s a i h e = rw e (go (eqb (s .refusal) 0))
   where
@@ -59,12 +59,12 @@ told-plain t s a i h e = rw e (go (eqb (s .refusal) 0))
     go true = (refl, h)
     go false = (refl, refl)
 
-pub ends-plain : (t : Turn) (d : Desk) (a : Answer) (i : ℕ) → shown a ≡ 0 → t ≡ ends d a i → (t .at ≡ i) × (shown (t .answer) ≡ 0)
+ends-plain : (t : Turn) (d : Desk) (a : Answer) (i : ℕ) → shown a ≡ 0 → t ≡ ends d a i → (t .at ≡ i) × (shown (t .answer) ≡ 0)
 unfolding ends
 ends-plain t d a i h e = rw e (refl, h)
 
 -- the entries of a placement stand on the slate
-pub on-slate : (r : Reply) (slate : List (List ℕ)) → shown (answerOf (placed.told r)) ≤ length (slateAfter r slate)
+on-slate : (r : Reply) (slate : List (List ℕ)) → shown (answerOf (placed.told r)) ≤ length (slateAfter r slate)
 unfolding shown answerOf placed.told slateAfter
 on-slate (placed t s e es) slate = omega (arith, length-append (map rowOf es) (drop (length es) slate), length-map es rowOf)
 on-slate (chosenNone t) slate = omega arith

@@ -29,12 +29,12 @@ found-of true nothing h = absurd (omega arith)
 found-of true (at i) h = (refl, refl)
 
 module _ (b : Board) (number : ℕ) where
-  pub entry-number : (more : Bool) (rest : ℕ) → (entryFor b number .refusal ≡ 0 → ⊥)
+  entry-number : (more : Bool) (rest : ℕ) → (entryFor b number .refusal ≡ 0 → ⊥)
       → entryFor b number .refusal ≡ cond (not (valid b)) 15 (cond (not (onBoard b number && more)) 5 rest)
   unfolding entryFor
   entry-number more rest h = number-of (valid b) (lookup b number) more rest h
 
-  pub entry-found : entryFor b number .refusal ≡ 0 → (valid b ≡ true) × (lookup b number ≡ at (entryFor b number .place))
+  entry-found : entryFor b number .refusal ≡ 0 → (valid b ≡ true) × (lookup b number ≡ at (entryFor b number .place))
   unfolding entryFor
   entry-found h = found-of (valid b) (lookup b number) h
 

@@ -33,7 +33,7 @@ module _ (ys : List Share) (s : ℕ) (f : Found) where
       go nothing h k = absurd (not-at e k)
       go (at d) h k = free d (allFree ys s d) refl k
 
-  pub end-free : endFree ys s f ≡ nothing → freeToEnd ys s f ≡ false
+  end-free : endFree ys s f ≡ nothing → freeToEnd ys s f ≡ false
   unfolding endFree freeToEnd
   end-free p = go f p
     where

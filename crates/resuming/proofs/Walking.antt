@@ -40,7 +40,7 @@ use Rattle.scheduler.specs.Owning.{suitsOn, leastOn}
 use Rattle.resuming.proofs.Resuming.{endFree, Least, found, onward, over}
 
 -- an end, where there is one
-abbrev pub endIf : Bool → ℕ → Found
+abbrev endIf : Bool → ℕ → Found
 endIf free end = cond free (at end) nothing
 
 -- with no diary asked, the joint end itself
@@ -69,7 +69,7 @@ end-more xs x s e free (at d) h = go free (allFree xs s d) refl h
     go false false k j = rw (free-more xs x s d, k) refl
 
 module _ (xs : List Share) (n work from : ℕ) (stops : List ℕ) where
-  abbrev pub end-from : ℕ → Found
+  abbrev end-from : ℕ → Found
   end-from x = jointEnd (map calendarOf xs) x work
 
   -- the first i are asked at `here`
@@ -95,7 +95,7 @@ module _ (xs : List Share) (n work from : ℕ) (stops : List ℕ) where
     pub tried : here < 2 ^ 63 → Tried here end free next i
 
   -- one calendar more
-  pub gathers-next : (cs : List Calendar) (here : ℕ) (free : Bool) (next i : ℕ) → Gathers cs here free next i → i < length cs → Gathers (set cs i (getD xs i noShare .timeline .calendar)) here free next (i + 1)
+  gathers-next : (cs : List Calendar) (here : ℕ) (free : Bool) (next i : ℕ) → Gathers cs here free next i → i < length cs → Gathers (set cs i (getD xs i noShare .timeline .calendar)) here free next (i + 1)
   gathers-next cs here free next i g l = record {
     start = g .start;
     begin = g .begin;
@@ -112,11 +112,11 @@ module _ (xs : List Share) (n work from : ℕ) (stops : List ℕ) where
     pub gathers-ruled : (cs : List Calendar) (here : ℕ) (free : Bool) (next i : ℕ) → Gathers cs here free next i → n ≤ i → Ruled cs n
     gathers-ruled cs here free next i g l k h = ap calendar.valid (g .cells k (omega arith)) ∙ rules _ (each-at (λ x. valid (x .timeline) ≡ true) noShare xs sound k (omega (arith, long))) .calendar
 
-    pub gathers-all : (cs : List Calendar) (here : ℕ) (free : Bool) (next i : ℕ) → Gathers cs here free next i → n ≤ i → n ≤ length cs → take n cs ≡ map calendarOf xs
+    gathers-all : (cs : List Calendar) (here : ℕ) (free : Bool) (next i : ℕ) → Gathers cs here free next i → n ≤ i → n ≤ length cs → take n cs ≡ map calendarOf xs
     gathers-all cs here free next i g l m = cells-map calendarOf noShare blank n xs cs (omega (arith, long)) m (λ k h. g .cells k (omega arith)) ∙ ap (map calendarOf) (take-all n xs (omega (arith, long)))
 
     -- an instant to try, with no diary asked
-    pub walks-begin : (edges : List ℕ) (len here end : ℕ) (free : Bool) → len ≤ 3201 → Layout (λ p. leb from p && joint (map calendarOf xs) p) edges len → Sought (suitsOn true xs work) from here
+    walks-begin : (edges : List ℕ) (len here end : ℕ) (free : Bool) → len ≤ 3201 → Layout (λ p. leb from p && joint (map calendarOf xs) p) edges len → Sought (suitsOn true xs work) from here
         → (here < 2 ^ 63 → endIf free end ≡ workEnd (before edges len) (laid edges len) here work) → Walks edges len here end free (2 ^ 63) 0
     walks-begin edges len here end free short y s e = record {
       short = short;
@@ -132,7 +132,7 @@ module _ (xs : List Share) (n work from : ℕ) (stops : List ℕ) where
     }
 
     -- one diary more asked
-    pub walks-next : (edges : List ℕ) (len here end : ℕ) (free : Bool) (next i : ℕ) → i < n → Walks edges len here end free next i → here < 2 ^ 63 → (later : ℕ) → here < later → later ≤ next → (later ≡ next) ⊎ (among later stops ≡ true)
+    walks-next : (edges : List ℕ) (len here end : ℕ) (free : Bool) (next i : ℕ) → i < n → Walks edges len here end free next i → here < 2 ^ 63 → (later : ℕ) → here < later → later ≤ next → (later ≡ next) ⊎ (among later stops ≡ true)
         → ((y : ℕ) → here ≤ y → suc y < later → Still (getD xs i noShare .timeline) (suc y)) → Walks edges len here end (free && freeOn (getD xs i noShare .timeline) (getD xs i noShare .units) here end) later (i + 1)
     walks-next edges len here end free next i m w l later a b on still =
         let t = w .tried l in
@@ -158,16 +158,16 @@ module _ (xs : List Share) (n work from : ℕ) (stops : List ℕ) where
       ends-all = w .tried l .ends ∙ ap (λ (ys : List Share). endFree ys here (end-from here)) whole
 
       -- all are free: the least start
-      pub walks-found : free ≡ true → Least xs work from here end
+      walks-found : free ≡ true → Least xs work from here end
       walks-found e = found xs sound work from here end (w .sought) (sym ends-all ∙ rw e refl)
 
       -- one is not: the search goes on at the next instant
-      pub walks-on : free ≡ false → Sought (suitsOn true xs work) from next
+      walks-on : free ≡ false → Sought (suitsOn true xs work) from next
       walks-on e =
           onward xs sound work from here next (w .sought) (sym ends-all ∙ rw e refl) (w .tried l .later)
           (λ y a b. subst (Calm (suc y)) whole (w .tried l .calm y a b))
 
-    pub walks-over : (edges : List ℕ) (len here end : ℕ) (free : Bool) (next i : ℕ) → Walks edges len here end free next i → from ≤ 2 ^ 43 → 2 ^ 63 ≤ here → leastOn true xs work from ≡ nothing
+    walks-over : (edges : List ℕ) (len here end : ℕ) (free : Bool) (next i : ℕ) → Walks edges len here end free next i → from ≤ 2 ^ 43 → 2 ^ 63 ≤ here → leastOn true xs work from ≡ nothing
     walks-over edges len here end free next i w f l = over xs sound work from here f l (w .sought)
 
   -- the walk at the i-th diary: the calendars are gathered, then instants are tried

@@ -18,7 +18,7 @@ use lib.Ieee.Scale.{round-same}
 use Rattle.speeds.specs.Speeds.{plain, UpTo, Within, isSpeed, one, quarter, four}
 
 -- a value a / c carries no sign
-pub plain-of-value : (x : Float) (a c : ℕ) → HasValue x false a c → T (plain x)
+plain-of-value : (x : Float) (a c : ℕ) → HasValue x false a c → T (plain x)
 plain-of-value nan a c v = absurd v
 plain-of-value (inf t) a c v = absurd v
 plain-of-value (fin true m e) a c v = absurd (true≢false (v .0))
@@ -33,7 +33,7 @@ le-of-test a b h = go (ltb a b) (eqb a b) (ltb→lt a b) (eqb→eq a b) h
     go false true p q h = le-of-eq (q tt)
     go false false p q h = absurd h
 
-pub le-cross : (x y : Float) → T (plain x) → T (plain y) → T (le x y) → num x * den y ≤ num y * den x
+le-cross : (x y : Float) → T (plain x) → T (plain y) → T (le x y) → num x * den y ≤ num y * den x
 unfolding le
 le-cross nan y p q h = absurd p
 le-cross (inf s) y p q h = absurd p
@@ -74,7 +74,7 @@ plain-under (fin s m e) y u p h = u
 bring : (a b c d N : ℕ) → 0 < d → c * 1 ≡ N * d → a * d ≤ c * b → a ≤ N * b
 bring a b c d N D e h = le-of-mul-le-mul-right (le-trans h (le-of-eq (ap (λ (y : ℕ). y * b) (sym (mul-one c) ∙ e) ∙ mul-right-comm N d b))) D
 
-pub round-up-to : (f : Format) (a c N : ℕ) → 0 < c → N ≤ 2 ^ prec f → a ≤ N * c → UpTo N (round f false a c)
+round-up-to : (f : Format) (a c N : ℕ) → 0 < c → N ≤ 2 ^ prec f → a ≤ N * c → UpTo N (round f false a c)
 round-up-to f a c N C small h =
     let z = round f false a c in
     let y = round f false N 1 in

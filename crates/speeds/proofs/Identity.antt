@@ -66,7 +66,7 @@ held f s (suc m) e h t =
     }
 
 -- two values that fit and are the same fraction are the same value
-pub unique : (f : Format) (x y : Float) → T (fits f x) → T (fits f y) → T (positive x) → T (positive y) → num x * den y ≡ num y * den x → x ≡ y
+unique : (f : Format) (x y : Float) → T (fits f x) → T (fits f y) → T (positive x) → T (positive y) → num x * den y ≡ num y * den x → x ≡ y
 unique f nan y F G p q h = absurd p
 unique f (inf s) y F G p q h = absurd p
 unique f (fin true m e) y F G p q h = absurd p
@@ -102,7 +102,7 @@ own-round f m e h =
     (le-of-eq (mul-right-comm (2 ^ suc (emax f)) (down e) (2 ^ low f) ∙ ap (λ (x : ℕ). x * down e) (mul-comm (2 ^ suc (emax f)) (2 ^ low f) ∙ sym (pow-add 2 (low f) (suc (emax f))))))))
     (k .1)
 
-pub round-own : (f : Format) (x : Float) → T (fits f x) → T (positive x) → round f false (num x) (den x) ≡ x
+round-own : (f : Format) (x : Float) → T (fits f x) → T (positive x) → round f false (num x) (den x) ≡ x
 round-own f nan F p = absurd p
 round-own f (inf s) F p = absurd p
 round-own f (fin true m e) F p = absurd p

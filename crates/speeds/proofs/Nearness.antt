@@ -54,14 +54,14 @@ closest-close : (n u : ℕ) → 0 < u → Close (closest n u * u) n u
 closest-close n u U = nearest-close (n / u) (n % u) u n (compare (n % u * 2) u) (cmp (n % u * 2) u) (mod-lt n U) (sym (div-add-mod' n u))
 
 -- `round`: the result in units of the format's smallest value, times c, is within half of c * 2 ^ drop of the numerator in those units
-pub grid-close : (f : Format) (a c : ℕ) → 0 < c → Close (grid f a c * c) (a * 2 ^ low f) (c * 2 ^ drop (prec f) (a * 2 ^ low f) c)
+grid-close : (f : Format) (a c : ℕ) → 0 < c → Close (grid f a c * c) (a * 2 ^ low f) (c * 2 ^ drop (prec f) (a * 2 ^ low f) c)
 grid-close f a c C =
     let n = a * 2 ^ low f in
     let k = drop (prec f) n c in
     subst (λ (g : ℕ). Close g n (c * 2 ^ k)) (sym (mul-assoc (kept (prec f) n c) (2 ^ k) c ∙ ap (λ (y : ℕ). kept (prec f) n c * y) (mul-comm (2 ^ k) c))) (closest-close n (c * 2 ^ k) (mul-pos C (pow-pos k)))
 
 -- a fraction below 2 ^ j drops few digits
-pub drop-le : (f : Format) (a c j : ℕ) → 0 < c → a < 2 ^ j * c → drop (prec f) (a * 2 ^ low f) c ≤ j + low f - prec f
+drop-le : (f : Format) (a c j : ℕ) → 0 < c → a < 2 ^ j * c → drop (prec f) (a * 2 ^ low f) c ≤ j + low f - prec f
 drop-le f a c j C h = less (size (a * 2 ^ low f / c)) (j + low f) (prec f) (size-le (a * 2 ^ low f / c) (j + low f) (div-lt-iff-lt-mul C .1
     (lt-of-lt-of-le (mul-lt-mul-of-pos-right h (pow-pos (low f))) (le-of-eq (mul-right-comm (2 ^ j) c (2 ^ low f) ∙ ap (λ (y : ℕ). y * c) (sym (pow-add 2 j (low f))))))))
   where
@@ -110,7 +110,7 @@ both-off r g a c D E p P e h u v =
 twice : (a c : ℕ) → 0 < c → a ≤ 2 ^ 38 * c → a < 2 ^ 39 * c
 twice a c C h = omega arith
 
-pub round-off : (a c : ℕ) → 0 < c → a ≤ 2 ^ 38 * c → T (finite (round binary64 false a c)) → Off (roundAway (round binary64 false a c)) c a
+round-off : (a c : ℕ) → 0 < c → a ≤ 2 ^ 38 * c → T (finite (round binary64 false a c)) → Off (roundAway (round binary64 false a c)) c a
 round-off a c C h k =
     let z = round binary64 false a c in
     let g = grid binary64 a c in
@@ -139,7 +139,7 @@ exact-at m k h =
 small-exp : (m p : ℕ) → m < 2 ^ 53 → p ≤ m * 1 * 4 → p < 2 ^ 55
 small-exp m p h k = omega arith
 
-pub scaled-exact : (s : Float) → T (fits binary64 s) → Within 1 s → scaled s * den s ≡ num s * 2 ^ 54
+scaled-exact : (s : Float) → T (fits binary64 s) → Within 1 s → scaled s * den s ≡ num s * 2 ^ 54
 unfolding scaled
 scaled-exact nan F w = absurd (w .flat)
 scaled-exact (inf t) F w = absurd (w .flat)

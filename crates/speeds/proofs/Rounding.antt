@@ -41,7 +41,7 @@ away-of-value (fin t m e) s a c C v = half-up-same (m * up e) (down e) a c (down
 under-half : (a c : ℕ) → 2 * a < c → 2 * a + c < 2 * c
 under-half a c h = omega arith
 
-pub half-up-small : (a c : ℕ) → 2 * a < c → halfUp a c ≡ 0
+half-up-small : (a c : ℕ) → 2 * a < c → halfUp a c ≡ 0
 unfolding halfUp
 half-up-small a c h = div-eq-of-lt (under-half a c h)
 
@@ -54,7 +54,7 @@ half-up-whole w = omega arith
 half-out : (w p q : ℕ) → q ≡ 2 * p → 2 * w + q ≡ 2 * (w + p)
 half-out w p q e = omega arith
 
-pub half-up-cut : (w k : ℕ) → halfUp w (2 ^ suc k) ≡ (w + 2 ^ k) / 2 ^ suc k
+half-up-cut : (w k : ℕ) → halfUp w (2 ^ suc k) ≡ (w + 2 ^ k) / 2 ^ suc k
 unfolding halfUp
 half-up-cut w k = ap (λ (y : ℕ). y / (2 * 2 ^ suc k)) (half-out w (2 ^ k) (2 ^ suc k) (pow-succ' 2 k)) ∙ mul-div-mul-left (w + 2 ^ k) (2 ^ suc k) (zero-lt-suc 1)
 
@@ -99,7 +99,7 @@ opened : (f : Format) (b : ℕ) → ofBits f b ≡ ofFields f (leb (top f) b) (b
 unfolding ofBits
 opened f b = refl
 
-pub bits-value : (f : Format) (x : Float) → T (fits f x) → T (finite x)
+bits-value : (f : Format) (x : Float) → T (fits f x) → T (finite x)
     → HasValue x (leb (top f) (toBits f x)) (lead f (toBits f x % top f / hid f) (toBits f x % hid f) * 2 ^ (toBits f x % top f / hid f - 1)) (2 ^ low f)
 bits-value f x F h =
     let b = toBits f x in
@@ -127,7 +127,7 @@ lead-suc : (g t : ℕ) → 0 < g → lead binary64 g t ≡ 4503599627370496 + t
 lead-suc zero t h = omega arith
 lead-suc (suc g) t h = refl
 
-pub field-value : (x : Float) → T (fits binary64 x) → T (finite x) → HasValue x (leb (top binary64) (toBits binary64 x)) (lead binary64 (field x) (digits x) * 2 ^ (field x - 1)) (2 ^ 1074)
+field-value : (x : Float) → T (fits binary64 x) → T (finite x) → HasValue x (leb (top binary64) (toBits binary64 x)) (lead binary64 (field x) (digits x) * 2 ^ (field x - 1)) (2 ^ 1074)
 field-value x F h = bits-value binary64 x F h
 
 small-exp : (g : ℕ) → g < 1022 → 53 + (g - 1) ≤ 1073

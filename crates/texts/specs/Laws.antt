@@ -9,7 +9,7 @@ use lib.Seq.{length-take-le, take-at, drop-at, drop-drop}
 use Rattle.texts.specs.Text.{written, Put}
 
 -- a text behind a text is both in one
-pub written-then : (d s t : List ℕ) (i : ℕ) → i + length s ≤ length d → written (written d i s) (i + length s) t ≡ written d i (s ++ t)
+written-then : (d s t : List ℕ) (i : ℕ) → i + length s ≤ length d → written (written d i s) (i + length s) t ≡ written d i (s ++ t)
 unfolding written
 written-then d s t i h =
     let p : length (take i d ++ s) ≡ i + length s = rw (length-append, length-take-le i d (omega arith)) in

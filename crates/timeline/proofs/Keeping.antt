@@ -114,7 +114,7 @@ diary-keeps capacity c bs v some few room o =
       sum = ap total (sym (bookings-diary capacity c bs));
     })
 
-pub insert-order : (ps : ℕ) (b : Booking) (bs : List Booking) → InRange ps b → InOrder ps bs → InOrder ps (insertBooking b bs)
+insert-order : (ps : ℕ) (b : Booking) (bs : List Booking) → InRange ps b → InOrder ps bs → InOrder ps (insertBooking b bs)
 unfolding insertBooking
 insert-order ps b [] r order-end = order-on r order-end
 insert-order ps b (x ∷ bs) r (order-on q o) = go (leb (x .start) (b .start)) refl (insert-order (x .start) b bs)
@@ -142,7 +142,7 @@ by-index (b ∷ bs) ps f =
     (by-index bs (b .start) (λ i l. rw (before-cons (b .start) (starts bs) i) at (f (suc i) (omega arith))))
 
 -- the bookings of a diary that keeps the rules are in order
-pub bookings-order : (t : ResourceTimeline) → valid t ≡ true → InOrder 0 (bookings t)
+bookings-order : (t : ResourceTimeline) → valid t ≡ true → InOrder 0 (bookings t)
 unfolding beforeFrom before
 bookings-order t v = by-index (bookings t) 0 one
   where

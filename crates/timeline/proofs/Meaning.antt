@@ -93,7 +93,7 @@ same-self : (b : Booking) → same b b ≡ true
 unfolding same
 same-self b = simp (eq-eqb (b .start) (b .start) refl, eq-eqb (b .end) (b .end) refl, eq-eqb (b .units) (b .units) refl)
 
-pub load-more : (bs cs : List Booking) (s e p : ℕ) → Within bs cs → load bs s e p ≤ load cs s e p
+load-more : (bs cs : List Booking) (s e p : ℕ) → Within bs cs → load bs s e p ≤ load cs s e p
 unfolding load tally times
 load-more [] cs s e p f = omega arith
 load-more (b ∷ bs) cs s e p f =

@@ -23,7 +23,7 @@ abbrev pub none : Booking
 none = record { start = 0; end = 0; units = 0 }
 
 -- length times units
-abbrev pub weight : Booking → ℕ
+abbrev weight : Booking → ℕ
 weight b = (b .end - b .start) * b .units
 
 pub weight-le : (s e u : ℕ) → e ≤ 2 ^ 42 → u ≤ 10000 → (e - s) * u ≤ 43980465111040000
@@ -69,10 +69,10 @@ pub booking-at : (t : ResourceTimeline) (k : ℕ) → k < t .len → getD (booki
 booking-at t k h = rows-at (t .starts) (t .ends) (t .units) (t .len) k h
 
 -- b put in at index at
-abbrev pub putAt : ℕ → Booking → List Booking → List Booking
+abbrev putAt : ℕ → Booking → List Booking → List Booking
 putAt at b bs = take at bs ++ (b ∷ drop at bs)
 
-pub insert-at : (b : Booking) (bs : List Booking) (at : ℕ) → at ≤ length bs
+insert-at : (b : Booking) (bs : List Booking) (at : ℕ) → at ≤ length bs
     → ((k : ℕ) → k < at → getD bs k none .start ≤ b .start)
     → (at < length bs → b .start < getD bs at none .start)
     → insertBooking b bs ≡ putAt at b bs

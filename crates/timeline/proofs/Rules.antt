@@ -47,7 +47,7 @@ unfolding cellRight
 cell-right s e u l ps pl f =
     simp (lt-ltb _ _ (f .order), le-leb _ _ (f .range), le-leb _ _ (f .some), le-leb _ _ (f .few), le-leb _ _ (f .sorted), eq-eqb _ _ (f .latest))
 
-abbrev pub CellOf : ResourceTimeline → ℕ → Type 0
+abbrev CellOf : ResourceTimeline → ℕ → Type 0
 CellOf t i =
     CellFacts (getD (t .starts) i 0) (getD (t .ends) i 0) (getD (t .units) i 0) (getD (t .latest) i 0)
     (before (t .starts) i)

@@ -9,7 +9,7 @@ use Rattle.calendar.specs.Search.{Found, nothing, at, leastFrom}
 use Rattle.calendar.specs.Searching.{Earliest, least-found, answer-is}
 
 -- no start up to the next candidate
-pub none-until : (P : ℕ → Bool) (x r : ℕ) → P x ≡ false → ((y : ℕ) → x ≤ y → suc y < r → P (suc y) ≡ true → P y ≡ true) → (j : ℕ) → x + j < r → P (x + j) ≡ false
+none-until : (P : ℕ → Bool) (x r : ℕ) → P x ≡ false → ((y : ℕ) → x ≤ y → suc y < r → P (suc y) ≡ true → P y ≡ true) → (j : ℕ) → x + j < r → P (x + j) ≡ false
 none-until P x r h back zero l =
     let e : x + 0 ≡ x = omega arith in
     rw e h

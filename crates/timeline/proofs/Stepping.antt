@@ -32,7 +32,7 @@ use Rattle.timeline.proofs.Rows.{none, count, booking-at}
 use Rattle.timeline.proofs.Loading.{load-le, Free, free-yes, free-facts}
 
 -- free one later and up to a later end, and no booking ends there: free already
-pub free-back : (cap : ℕ) (bs : List Booking) (u x e e′ : ℕ) → e ≤ e′ → ((k : ℕ) → k < length bs → getD bs k none .end ≡ suc x → ⊥) → free cap bs u (suc x) e′ ≡ true → free cap bs u x e ≡ true
+free-back : (cap : ℕ) (bs : List Booking) (u x e e′ : ℕ) → e ≤ e′ → ((k : ℕ) → k < length bs → getD bs k none .end ≡ suc x → ⊥) → free cap bs u (suc x) e′ ≡ true → free cap bs u x e ≡ true
 free-back cap bs u x e e′ m f h =
     let g = free-facts cap bs u (suc x) e′ h in
     free-yes cap bs u x e
@@ -116,7 +116,7 @@ latest-most l m f =
     (λ k h. let g : k < l .len = rw (spans-long l 0 (l .len)) at h in rw (span-at l k (spanAt l 0) g) (f k g))
 
 -- and so is that of the bookings
-pub booked-end : (t : ResourceTimeline) (k : ℕ) → k < t .len → getD (t .ends) k 0 ≤ latestEnd (bookings t)
+booked-end : (t : ResourceTimeline) (k : ℕ) → k < t .len → getD (t .ends) k 0 ≤ latestEnd (bookings t)
 unfolding latestEnd
 booked-end t k h = rw (booking-at t k h) at (greatest-each (λ (b : Booking). b .end) none (bookings t) k (rw (count t) h))
 
