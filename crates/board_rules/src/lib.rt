@@ -36,19 +36,15 @@ pub fn places_of(b: Board) -> Places
     let mut i: usize = 0;
     while i < 16 {
         let r = b.resources[i];
+        if !resource_rules::cell_right(r, i < len) {
+            return wrong;
+        }
         if i < len {
-            if !resource_rules::cell_right(r, true) {
-                return wrong;
-            }
             let number = r.number as usize;
             if places[number] < 16 {
                 return wrong;
             }
             places[number] = i;
-        } else {
-            if !resource_rules::cell_right(r, false) {
-                return wrong;
-            }
         }
         let t = r.timeline;
         lens[i] = t.len as u64;

@@ -29,22 +29,19 @@ pub fn choose(b: Board, a: Activity, ready: u64, places: [usize; 16]) -> Choice
     let mut k: usize = 0;
     while !x.done {
         if planned < b.len {
-            let r = b.resources[planned];
-            plans[planned] = plans::plan_of(r, a, ready, &b.transport);
+            plans[planned] = plans::plan_of(b.resources[planned], a, ready, &b.transport);
             planned += 1;
         } else if k >= 16 * a.len {
             x = rounds::settled(x, plans, starts, b.len, a);
             k = 0;
         } else if answering::is_asked(k % 16, b.len, asked[k], starts[k], x.instant) {
-            let q = a.requirements[k / 16];
             let p = plans[k % 16];
-            let m = members::member_of(q, p, k % 16, places, x.instant, g);
+            let m = members::member_of(a.requirements[k / 16], p, k % 16, places, x.instant, g);
             let place = m.place;
             let mut s = Start::Nothing;
             if place < 16 {
                 let r = b.resources[place];
-                let d = r.timeline;
-                s = together::start_on(d, a.resumable, p.span, m.units, m.from);
+                s = together::start_on(r.timeline, a.resumable, p.span, m.units, m.from);
             }
             g = together::answered(g.next, m.from, s);
             if g.next > p.count {

@@ -12,19 +12,16 @@ use Rattle.activity.specs.Check.{requirementsOf, activityRefusal}
 use Rattle.activity.proofs.Judging.{accepted, accepted-is}
 use Rattle.activity.proofs.Meaning.{ready-range}
 use Rattle.board.specs.declared.Board.{Board}
-use Rattle.board.specs.Valid.{valid}
 use Rattle.scheduler.specs.declared.Entry.{Entry}
 use Rattle.scheduler.specs.Alone.{spanOf}
 use Rattle.scheduler.specs.Choosing.{Held, Choice, noChoice, chosen, choosing}
 use Rattle.scheduler.specs.Fitting.{entriesOf, spanTogether}
-use Rattle.scheduler.specs.Placing.{none, refused, fitted, fitChosen, timeOnly, byRequirements, placing, placeReply}
+use Rattle.scheduler.specs.Placing.{none, refused, fitted, fitChosen, timeOnly, byRequirements, placing, placeRefusal, placeReply}
 use Rattle.calendar.specs.Refusals.{refusedOr, refused-by}
 use Rattle.scheduler.specs.Selections.{heldTo}
 use Rattle.rounds.specs.declared.Choice as code
 use Rattle.rounds.specs.Rounds.{choiceOf}
 use Rattle.fitting.specs.Closing.{EntriesOn}
-use Rattle.placing.specs.Steps.{orderRefusal}
-use Rattle.placing.proofs.Telling.{refusal-off, refusal-15}
 
 -- the order from its release on is not refused either
 pub ready-lawful : (a : Activity) (ready : ℕ) → activityRefusal a ready ≡ 0 → activityRefusal a (readyOf (a .release) ready) ≡ 0
@@ -42,40 +39,35 @@ ready-lawful a ready e =
     })
 
 module _ (b : Board) (a : Activity) (ready slate : ℕ) where
-  pub reply-15 : valid b ≡ false → placeReply b a ready slate ≡ refused 15
-  unfolding placeReply refusedOr
-  reply-15 v = rw (refusal-15 b a ready slate v) refl
+  pub reply-refused : (n : ℕ) → n ≡ placeRefusal b a ready slate → (n ≡ 0 → ⊥) → placeReply b a ready slate ≡ refused n
+  unfolding placeReply
+  reply-refused n e h = rw (← e) (sym (refused-by refused n (placing b a (readyOf (a .release) ready)) h))
 
-  module _ (v : valid b ≡ true) where
-    pub reply-refused : (n : ℕ) → n ≡ orderRefusal a ready slate → (n ≡ 0 → ⊥) → placeReply b a ready slate ≡ refused n
-    unfolding placeReply
-    reply-refused n e h = rw (refusal-off b a ready slate v, ← e) (sym (refused-by refused n (placing b a (readyOf (a .release) ready)) h))
+  module _ (e : placeRefusal b a ready slate ≡ 0) where
+    abbrev from : ℕ
+    from = readyOf (a .release) ready
 
-    module _ (e : orderRefusal a ready slate ≡ 0) where
-      abbrev from : ℕ
-      from = readyOf (a .release) ready
+    reply-is : placeReply b a ready slate ≡ placing b a from
+    unfolding placeReply refusedOr
+    reply-is = rw e refl
 
-      reply-is : placeReply b a ready slate ≡ placing b a from
-      unfolding placeReply refusedOr
-      reply-is = rw (refusal-off b a ready slate v, e) refl
+    -- without requirements
+    pub reply-alone : a .len ≡ 0 → placeReply b a ready slate ≡ fitted b a (spanOf (a .duration .setup) (a .duration)) from []
+    unfolding placing byRequirements timeOnly
+    reply-alone z = reply-is ∙ rw z refl
 
-      -- without requirements
-      pub reply-alone : a .len ≡ 0 → placeReply b a ready slate ≡ fitted b a (spanOf (a .duration .setup) (a .duration)) from []
-      unfolding placing byRequirements timeOnly
-      reply-alone z = reply-is ∙ rw z refl
+    module _ (q : ResourceRequirement) (qs : List ResourceRequirement) (asks : requirementsOf a ≡ q ∷ qs) where
+      reply-chosen : placeReply b a ready slate ≡ fitChosen b a (choosing b a from)
+      unfolding placing byRequirements
+      reply-chosen = reply-is ∙ rw asks refl
 
-      module _ (q : ResourceRequirement) (qs : List ResourceRequirement) (asks : requirementsOf a ≡ q ∷ qs) where
-        reply-chosen : placeReply b a ready slate ≡ fitChosen b a (choosing b a from)
-        unfolding placing byRequirements
-        reply-chosen = reply-is ∙ rw asks refl
+      pub reply-none : choosing b a from ≡ noChoice → placeReply b a ready slate ≡ none
+      unfolding fitChosen
+      reply-none c = reply-chosen ∙ ap (fitChosen b a) c
 
-        pub reply-none : choosing b a from ≡ noChoice → placeReply b a ready slate ≡ none
-        unfolding fitChosen
-        reply-none c = reply-chosen ∙ ap (fitChosen b a) c
-
-        pub reply-held : (t : ℕ) (hs : List Held) → choosing b a from ≡ chosen t hs → placeReply b a ready slate ≡ fitted b a (spanTogether a hs) t (entriesOf a hs)
-        unfolding fitChosen
-        reply-held t hs c = reply-chosen ∙ ap (fitChosen b a) c
+      pub reply-held : (t : ℕ) (hs : List Held) → choosing b a from ≡ chosen t hs → placeReply b a ready slate ≡ fitted b a (spanTogether a hs) t (entriesOf a hs)
+      unfolding fitChosen
+      reply-held t hs c = reply-chosen ∙ ap (fitChosen b a) c
 
 -- an order with requirements has a first one
 pub first-one : (a : Activity) → (a .len ≡ 0 → ⊥) → length (a .requirements) ≡ 4 → (q : ResourceRequirement) × (qs : List ResourceRequirement) × (requirementsOf a ≡ q ∷ qs)

@@ -1,12 +1,12 @@
 -- The closing fit in the words of the definition, and the refusals.
 use mathlib.Core.Path.{_≡_, refl, sym, ap, _∙_}
-use mathlib.Core.Bool.{true, false, not, cond}
+use mathlib.Core.Bool.{true, not, _||_, cond}
 use mathlib.Core.List.{List, _++_, map}
 use Prim.Native.Nat.{ℕ, _≤_}
 use borrow.Author.Tests.{not-false, ltb-false}
 use lib.ListN.{length, drop}
 use lib.Dec.{ltb}
-use Rattle.calendar.specs.Basics.{unrefused}
+use Rattle.calendar.specs.Basics.{or-left, or-right, unrefused}
 use Rattle.calendar.specs.Valid as calendar
 use Rattle.calendar.specs.Search.{Found, nothing, at}
 use Rattle.timeline.specs.Ask as asking
@@ -20,7 +20,6 @@ use Rattle.scheduler.specs.Fitting.{sharesOf, fitting, endOf}
 use Rattle.scheduler.specs.Placing as placement
 use Rattle.scheduler.specs.Placing.{Reply, placed, chosenNone, started, fitted, placeRefusal, rowOf, slateAfter}
 use Rattle.fitting.specs.Closing.{withEnd, closing}
-use Rattle.placing.specs.Steps.{orderRefusal}
 use Rattle.placing.specs.Told.{told}
 use Rattle.placing.specs.declared.Placement.the-variants.{Placed, ChosenNone}
 
@@ -39,22 +38,13 @@ closing-reply a xs span t es (at s) = go (endOf (a .resumable) xs (a .calendar) 
     go nothing = refl
     go (at e) = refl
 
--- the refusals of a board that keeps the rules are those of the order and the slate
-pub refusal-off : (b : Board) (a : Activity) (ready slate : ℕ) → valid b ≡ true → placeRefusal b a ready slate ≡ orderRefusal a ready slate
-unfolding placeRefusal orderRefusal
-refusal-off b a ready slate v = rw v refl
-
-pub refusal-15 : (b : Board) (a : Activity) (ready slate : ℕ) → valid b ≡ false → placeRefusal b a ready slate ≡ 15
+-- nothing refused: the board, the calendar, the slate and the order are right
+pub all-right : (b : Board) (a : Activity) (ready slate : ℕ) → placeRefusal b a ready slate ≡ 0 → (valid b ≡ true) × (calendar.valid (a .calendar) ≡ true) × (24 ≤ slate) × (activityRefusal a ready ≡ 0)
 unfolding placeRefusal
-refusal-15 b a ready slate v = rw v refl
-
--- nothing refused: the calendar, the slate and the order are right
-pub order-right : (a : Activity) (ready slate : ℕ) → orderRefusal a ready slate ≡ 0 → (calendar.valid (a .calendar) ≡ true) × (24 ≤ slate) × (activityRefusal a ready ≡ 0)
-unfolding orderRefusal
-order-right a ready slate e =
-    let x = unrefused (not (calendar.valid (a .calendar))) 14 (cond (ltb slate 24) 7 (activityRefusal a ready)) e in
+all-right b a ready slate e =
+    let x = unrefused (not (valid b) || not (calendar.valid (a .calendar))) 14 (cond (ltb slate 24) 7 (activityRefusal a ready)) e in
     let y = unrefused (ltb slate 24) 6 (activityRefusal a ready) (x .1) in
-    (not-false (calendar.valid (a .calendar)) (x .0), ltb-false slate 24 (y .0), y .1)
+    (not-false (valid b) (or-left _ _ (x .0)), not-false (calendar.valid (a .calendar)) (or-right (not (valid b)) _ (x .0)), ltb-false slate 24 (y .0), y .1)
 
 -- what the closing fit answers is the definition's reply
 module _ (b : Board) (a : Activity) (span t : ℕ) (es : List Entry) (n : ℕ) (long : length es ≡ n) (r : asking.Reply) (e : r ≡ closing (a .resumable) (sharesOf b es) (a .calendar) span t) (slate : List (List ℕ)) where

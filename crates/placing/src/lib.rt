@@ -7,8 +7,9 @@ ghost use mathlib.Core.Path.{_≡_};
 ghost use mathlib.Core.List.{_++_, map};
 ghost use Prim.Native.Nat.{_≤_};
 ghost use lib.ListN.{length, take, drop};
-ghost use Rattle.scheduler.specs.Placing.{rowOf, slateAfter, placeReply};
-ghost use Rattle.placing.specs.Steps.{orderRefusal};
+ghost use Rattle.board.specs.declared.Board as declared;
+ghost use Rattle.board.specs.Valid.{valid};
+ghost use Rattle.scheduler.specs.Placing.{rowOf, slateAfter, placeRefusal, placeReply};
 ghost use Rattle.placing.specs.Told.{told};
 
 // What placing answers: choosing instant, start, end and how many entries; 'chosen, none' with the choosing instant; none; a refusal.
@@ -34,10 +35,13 @@ fn write(slate: &mut [[u64; 4]], e: Entries)
     }
 }
 
-// The refusal of an order by itself and the slate, 0 for none.
-fn order_refusal(a: Activity, ready: u64, slate: usize) -> u8
-    ensures { λ r. ⌜ r ≡ orderRefusal a ready slate ⌝ }
+// The refusal of a placing, 0 for none, the board being right or not.
+fn refusal_of(right: bool, a: Activity, ready: u64, slate: usize) -> u8
+    ensures { λ r. ⌜ ((b : declared.Board) → right ≡ valid b → r ≡ placeRefusal b a ready slate) ⌝ }
 {
+    if !right {
+        return 15;
+    }
     let own = a.calendar;
     if !calendar::is_valid(own) {
         return 15;
@@ -55,18 +59,14 @@ pub fn place_activity(b: Board, a: Activity, ready: u64, slate: &mut [[u64; 4]])
     ensures { λ _. ⌜ now (slate .exit) ≡ slateAfter (placeReply b a ready (length (now (slate .entry)))) (now (slate .entry)) ⌝ }
 {
     let p = board_rules::places_of(b);
-    if !p.right {
-        return Placement::Refused(15);
-    }
-    let refusal = order_refusal(a, ready, slate.len());
+    let refusal = refusal_of(p.right, a, ready, slate.len());
     if refusal != 0 {
         return Placement::Refused(refusal);
     }
     let places = p.places;
     let release = a.release;
-    let d = a.duration;
     let mut t = activity::core::ready_of(release, ready);
-    let mut span = d.setup + d.process + d.teardown;
+    let mut span = a.duration.setup + a.duration.process + a.duration.teardown;
     let mut e = entries::no_entries();
     if a.len != 0 {
         let c = choosing::choose(b, a, t, places);
@@ -80,11 +80,10 @@ pub fn place_activity(b: Board, a: Activity, ready: u64, slate: &mut [[u64; 4]])
         span = x.span;
         e = x.entries;
     }
-    let own = a.calendar;
     let f = if a.resumable {
-        resuming::fit_resumable(b, e, places, own, span, t)
+        resuming::fit_resumable(b, e, places, a.calendar, span, t)
     } else {
-        fitting::fit_unbroken(b, e, places, own, span, t)
+        fitting::fit_unbroken(b, e, places, a.calendar, span, t)
     };
     match f {
         Fit::At(s, end) => {

@@ -65,7 +65,7 @@ same-alike t = record { capacity-same = refl; calendar-same = refl; more = λ b.
 
 module _ (b c : Board) (k : Alike b c) where
   -- a number has the same place on both
-  pub lookup-same : (n : ℕ) → lookup b n ≡ lookup c n
+  lookup-same : (n : ℕ) → lookup b n ≡ lookup c n
   lookup-same n = keeping.lookup-same c b (b .len) n (λ m l. k .resources-alike m l .number-same) ∙ ap (λ (l : ℕ). lookupTo c l n) (k .len-same)
 
   pub on-same : (n : ℕ) → onBoard b n ≡ onBoard c n

@@ -139,7 +139,7 @@ module _ (b c : Board) (k : Alike b c) (a : Activity) (ready : ℕ) where
       (rw (d, n, m, e) refl, rw (d, e) refl)
 
 -- among a list on which N holds of each
-pub each-among : (N : ℕ → Type 0) (n : ℕ) (ns : List ℕ) → Each N ns → among n ns ≡ true → N n
+each-among : (N : ℕ → Type 0) (n : ℕ) (ns : List ℕ) → Each N ns → among n ns ≡ true → N n
 unfolding among
 each-among N n [] each-end e = absurd (not-both true refl (sym e))
 each-among N n (m ∷ ns) (each-on p a) e = go (eqb m n) refl e (each-among N n ns a)

@@ -64,7 +64,7 @@ module _ (P : ℕ → Bool) (L : ℕ → Found) (l : List ℕ) (says : (t : ℕ)
       go nothing w again = sought-never P from t r w
       go (at u) w again = one u w (eqb u t) refl (again u)
 
-  pub steps-mean : (n : ℕ) → length l < n → Answers P from (steps n L from)
+  steps-mean : (n : ℕ) → length l < n → Answers P from (steps n L from)
   steps-mean n h = walk n from (sought-start P from) (omega (arith, above-length l from))
 
 -- a list that holds more instants
@@ -131,7 +131,7 @@ module _ (b : Board) (v : board.valid b ≡ true) (own : Calendar) (w : calendar
         calendar-rules.right (own .blocks) (calendar-rules.blocks-right own w) .few,
       )
 
-  pub closing-length : length closingPoints ≤ 2112
+  closing-length : length closingPoints ≤ 2112
   closing-length = omega (arith, length-append (events (ownShare own .timeline)) (eventsOn b), own-length, events-board b v)
 
   -- The closing fit of unbroken work: any number above 2,112 gives the least start that suits all.

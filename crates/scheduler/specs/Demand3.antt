@@ -73,7 +73,7 @@ module _ (b c : Board) (k : Alike b c) (a : Activity) (ready : ℕ) (q : Resourc
       go (chosen t hs) h w = (t, hs, h, ⊎-elim (λ (l : u < t). absurd (not-both (P u) on (w .0 .first u (late .0 .low) l))) (λ (l : t ≤ u). l) (lt-or-ge u t))
 
   -- and where no extra is on those held and their companions, it chooses the same
-  pub chosen-same : (t : ℕ) (hs : List Held) → choosing b a ready ≡ chosen t hs → Each (λ h. Clean b c k (h .resource)) hs → (ks : List Held) × (choosing c a ready ≡ chosen t ks) × Pairs (TwinHeld b c k a ready) hs ks
+  chosen-same : (t : ℕ) (hs : List Held) → choosing b a ready ≡ chosen t hs → Each (λ h. Clean b c k (h .resource)) hs → (ks : List Held) × (choosing c a ready ≡ chosen t ks) × Pairs (TwinHeld b c k a ready) hs ks
   chosen-same t hs e z = go (choosing c a ready) refl second
     where
       early : Earliest P ready t × (hs ≡ heldAt b a ready (q ∷ qs) t)
@@ -132,7 +132,7 @@ fitted-unrefused b a span t es = go (fitting (a .resumable) (sharesOf b es) (a .
     go (at s) = end s (endOf (a .resumable) (sharesOf b es) (a .calendar) span s)
 
 -- what passes the checks is not refused
-pub placing-unrefused : (b : Board) (a : Activity) (ready : ℕ) → refusalOf (placing b a ready) ≡ nothing
+placing-unrefused : (b : Board) (a : Activity) (ready : ℕ) → refusalOf (placing b a ready) ≡ nothing
 unfolding placing byRequirements timeOnly fitChosen refusalOf
 placing-unrefused b a ready = go (requirementsOf a) (choosing b a ready)
   where

@@ -51,7 +51,7 @@ hold-parts q cs rest hs e = go (ltb (length cs) (q .quantity)) refl rest refl e
     go false l tooFew s f = not-few hs f
     go false l (holds ks) s f = record { many = ltb-false (length cs) (q .quantity) l; others = ks; rest-is = s; all-is = sym (ap heldIn f) }
 
-pub hold-is : (q : ResourceRequirement) (cs : List Candidate) (ks : List Held) → q .quantity ≤ length cs → hold q cs (holds ks) ≡ holds (holdFirst q (sort cs) ++ ks)
+hold-is : (q : ResourceRequirement) (cs : List Candidate) (ks : List Held) → q .quantity ≤ length cs → hold q cs (holds ks) ≡ holds (holdFirst q (sort cs) ++ ks)
 unfolding behind
 hold-is q cs ks l = rw (le-ltb (length cs) (q .quantity) l) refl
 
@@ -61,11 +61,11 @@ unfolding holdFirst
 each-hold P q cs a = each-in-map (λ h. P (h .start)) (heldFor q) (take (q .quantity) cs) (each-take {A = Candidate} (λ c. P (c .start)) (q .quantity) cs a)
 
 -- the first quantity of two lists, where the first list has so many
-pub each-hold-front : (P : ℕ → Type 0) (q : ResourceRequirement) (xs ys : List Candidate) → q .quantity ≤ length xs → Each {A = Candidate} (λ c. P (c .start)) xs → Each {A = Held} (λ h. P (h .start)) (holdFirst q (xs ++ ys))
+each-hold-front : (P : ℕ → Type 0) (q : ResourceRequirement) (xs ys : List Candidate) → q .quantity ≤ length xs → Each {A = Candidate} (λ c. P (c .start)) xs → Each {A = Held} (λ h. P (h .start)) (holdFirst q (xs ++ ys))
 unfolding holdFirst
 each-hold-front P q xs ys l a = rw (take-append-le (q .quantity) xs ys l) (each-hold P q xs a)
 
-pub each-held : (P : ℕ → Type 0) (q : ResourceRequirement) (cs : List Candidate) → Each {A = Held} (λ h. P (h .start)) (holdFirst q cs) → Each {A = Candidate} (λ c. P (c .start)) (take (q .quantity) cs)
+each-held : (P : ℕ → Type 0) (q : ResourceRequirement) (cs : List Candidate) → Each {A = Held} (λ h. P (h .start)) (holdFirst q cs) → Each {A = Candidate} (λ c. P (c .start)) (take (q .quantity) cs)
 unfolding holdFirst
 each-held P q cs a = each-of-map (λ h. P (h .start)) (heldFor q) (take (q .quantity) cs) a
 

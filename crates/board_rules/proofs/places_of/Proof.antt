@@ -2,16 +2,18 @@
 -- the diaries passed.
 use borrow.Author.Needs.{needs}
 use borrow.Author.Tests.{not-true, not-false, lt-ltb, le-ltb}
-use mathlib.Core.Bool.{true, _&&_}
+use mathlib.Core.Bool.{Bool, true, false, cond, _&&_}
 use mathlib.Core.Logic.{⊎-elim}
 use mathlib.Core.Path.{_≡_, refl, sym, _∙_}
-use Prim.Native.Nat.{_+_, _-_, _≤_, min}
+use Prim.Native.Nat.{ℕ, _+_, _-_, _≤_, _<_, min}
 use native.Mathlib.Omega.{arith}
 use lib.ListN.{length, replicate, length-set}
-use Rattle.calendar.specs.Basics.{filled-next}
+use lib.Dec.{ltb}
+use Rattle.calendar.specs.Basics.{filled-next, lt-or-ge}
 use Rattle.calendar.specs.Every.{everyFrom}
+use Rattle.board.specs.declared.Board.{Board}
 use Rattle.board.specs.Resources.{resourceAt, numberAt}
-use Rattle.board.specs.Valid.{cellRight, transportRight, valid}
+use Rattle.board.specs.Valid.{resourceRight, resourceBlank, cellRight, transportRight, valid}
 use Rattle.board.proofs.Facts.{resource-number, cell-past, cell-wrong, cell-twice, cell-right, valid-long, valid-start, valid-stop, valid-next, valid-end}
 use Rattle.board.proofs.Seeing.{Seen, seen-none}
 use Rattle.board.proofs.Setting.{seen-next, seen-past, seen-at, transport-same, read-all}
@@ -45,45 +47,53 @@ element-copy-out-r c = search needs
 cell-right-requires : tie.Need-cell-right-requires Inv-loop μ-loop
 cell-right-requires c κs = search needs
 
+-- what `cell_right` says of cell i: that it is wrong, or that a resource there is right
+abbrev answered : Board → ℕ → Bool
+answered b i = cond (ltb i (b .len)) (resourceRight (resourceAt b i)) (resourceBlank (resourceAt b i))
+
+cell-fails : (b : Board) (i : ℕ) → answered b i ≡ false → cellRight b i ≡ false
+cell-fails b i e =
+    ⊎-elim
+    (λ (l : i < b .len). cell-wrong b i l (rw (lt-ltb i (b .len) l) at e))
+    (λ (l : b .len ≤ i). cell-past b i l ∙ (rw (le-ltb i (b .len) l) at e))
+    (lt-or-ge i (b .len))
+
+there : (b : Board) (i : ℕ) → i < b .len → answered b i ≡ true → resourceRight (resourceAt b i) ≡ true
+there b i l e = rw (lt-ltb i (b .len) l) at e
+
 returns-2 : tie.Need-returns-2 Inv-loop μ-loop
 returns-2 c =
-    let e = sym (c .before .cell-right .ensures) ∙ not-true _ (c .if3 .taken) in
-    refuted _ (replicate 16 16) (replicate 16 0) (valid-stop _ _ (c .before .before .before .before .loop-test .taken) (c .before .before .before .before .before .loop .inv .4) (cell-wrong _ _ (omega arith) e))
+    let e = sym (c .before .cell-right .ensures) ∙ not-true _ (c .if2 .taken) in
+    refuted _ (replicate 16 16) (replicate 16 0) (valid-stop _ _ (c .before .before .before .loop-test .taken) (c .before .before .before .before .loop .inv .4) (cell-fails _ _ e))
+
+-- a resource that stands there is right
+resource-there : (c : tie.Then3 Inv-loop μ-loop) → resourceRight (resourceAt (c .before .before .before .before .before .before .before .args .t1) (c .before .before .before .before .before .loop .i)) ≡ true
+resource-there c = there (c .before .before .before .before .before .before .before .args .t1) (c .before .before .before .before .before .loop .i) (c .if3 .taken) (sym (c .before .before .cell-right .ensures) ∙ not-false _ (c .before .if2 .left))
 
 cast-number : tie.Need-cast-number Inv-loop μ-loop
 cast-number c =
-    let e = sym (c .before .before .cell-right .ensures) ∙ not-false _ (c .before .if3 .left) in
+    let e = resource-there (c .before) in
     search needs
 
 mul-if4 : tie.Need-mul-if4 Inv-loop μ-loop
 mul-if4 c = search needs
 
 array-read-if4 : tie.Need-array-read-if4 Inv-loop μ-loop
-array-read-if4 c =
-    let e = sym (c .before .before .cell-right .ensures) ∙ not-false _ (c .before .if3 .left) in
-    omega (arith, resource-number _ e, c .before .before .before .before .before .before .loop .inv .3 .long)
+array-read-if4 c = omega (arith, resource-number _ (resource-there (c .before)), c .before .before .before .before .before .before .loop .inv .3 .long)
 
 returns-3 : tie.Need-returns-3 Inv-loop μ-loop
 returns-3 c =
-    let e = sym (c .before .before .before .cell-right .ensures) ∙ not-false _ (c .before .before .if3 .left) in
-    let d = seen-at (c .before .before .before .before .before .before .before .before .before .args .t1) (c .before .before .before .before .before .before .before .loop .i) (numberAt (c .before .before .before .before .before .before .before .before .before .args .t1) (c .before .before .before .before .before .before .before .loop .i)) (c .before .before .before .before .before .before .before .loop .places) (c .before .before .before .before .before .before .before .loop .inv .3) (omega arith) (omega arith) (omega (arith, resource-number _ e)) in
-    refuted _ (replicate 16 16) (replicate 16 0) (valid-stop _ _ (c .before .before .before .before .before .before .loop-test .taken) (c .before .before .before .before .before .before .before .loop .inv .4) (cell-twice _ _ (omega arith) e (sym d ∙ lt-ltb _ _ (c .if4 .taken))))
+    let b = c .before .before .before .before .before .before .before .before .before .args .t1 in
+    let l = c .before .before .before .before .before .before .before .loop in
+    let e = resource-there (c .before .before) in
+    let d = seen-at b (l .i) (numberAt b (l .i)) (l .places) (l .inv .3) (omega arith) (omega arith) (omega (arith, resource-number _ e)) in
+    refuted _ (replicate 16 16) (replicate 16 0) (valid-stop _ _ (c .before .before .before .before .before .before .loop-test .taken) (l .inv .4) (cell-twice _ _ (omega arith) e (sym d ∙ lt-ltb _ _ (c .if4 .taken))))
 
 mul-places : tie.Need-mul-places Inv-loop μ-loop
 mul-places c = search needs
 
 array-write-places : tie.Need-array-write-places Inv-loop μ-loop
-array-write-places c =
-    let e = sym (c .before .before .before .cell-right .ensures) ∙ not-false _ (c .before .before .if3 .left) in
-    omega (arith, resource-number _ e, c .before .before .before .before .before .before .before .loop .inv .3 .long)
-
-cell-right-requires-2 : tie.Need-cell-right-requires-2 Inv-loop μ-loop
-cell-right-requires-2 c κs = search needs
-
-returns-4 : tie.Need-returns-4 Inv-loop μ-loop
-returns-4 c =
-    let e = sym (c .before .cell-right2 .ensures) ∙ not-true _ (c .if5 .taken) in
-    refuted _ (replicate 16 16) (replicate 16 0) (valid-stop _ _ (c .before .before .before .before .loop-test .taken) (c .before .before .before .before .before .loop .inv .4) (cell-past _ _ (omega arith) ∙ e))
+array-write-places c = omega (arith, resource-number _ (resource-there (c .before .before)), c .before .before .before .before .before .before .before .loop .inv .3 .long)
 
 mul-lens : tie.Need-mul-lens Inv-loop μ-loop
 mul-lens c = search needs
@@ -99,25 +109,27 @@ loop-less c = search needs
 
 loop-again : tie.Need-loop-again Inv-loop μ-loop
 loop-again c =
-    let b = c .before .before .before .before .before .before .args .t1 in
-    let i = c .before .before .before .before .loop .i in
-    let s = c .before .before .before .before .loop .inv .3 in
-    let j : Seen b (min (i + 1) (b .len)) (c .before .if2 .places) × (cellRight b i ≡ true) =
+    let b = c .before .before .before .before .before .before .before .before .args .t1 in
+    let l = c .before .before .before .before .before .before .loop in
+    let i = l .i in
+    let s = l .inv .3 in
+    let e : answered b i ≡ true = sym (c .before .before .before .cell-right .ensures) ∙ not-false _ (c .before .before .if2 .left) in
+    let j : Seen b (min (i + 1) (b .len)) (c .before .if3 .places) × (cellRight b i ≡ true) =
     ⊎-elim
     (λ w.
-    let e = sym (w .1 .ensures) ∙ not-false _ (w .2 .left) in
-    let d = seen-at b i (numberAt b i) (c .before .before .before .before .loop .places) s (omega arith) (omega arith) (omega (arith, resource-number _ e)) in
-    let f = sym d ∙ le-ltb _ _ (w .4 .left) in
-    (rw (w .5) (seen-next b i (c .before .before .before .before .loop .places) s (omega arith) (omega (arith, resource-number _ e)) f), cell-right b i (omega arith) e f))
-    (λ w. (rw (w .3) (seen-past b i (c .before .before .before .before .loop .places) s (omega arith)), cell-past b i (omega arith) ∙ sym (w .1 .ensures) ∙ not-false _ (w .2 .left)))
-    (c .before .if2 .came) in
-    (refl, omega arith, omega arith, j .0, valid-next b i (c .before .before .before .loop-test .taken) (c .before .before .before .before .loop .inv .4) (j .1), length-set (c .before .before .before .before .loop .lens) i _ ∙ c .before .before .before .before .loop .inv .5, filled-next (λ k. resourceAt b k .timeline .len) (c .before .before .before .before .loop .lens) i _ 0 (omega (arith, c .before .before .before .before .loop .inv .5)) (c .before .before .before .before .loop .inv .6) refl)
+    let r = there b i (w .0 .taken) e in
+    let d = seen-at b i (numberAt b i) (l .places) s (omega arith) (omega arith) (omega (arith, resource-number _ r)) in
+    let f = sym d ∙ le-ltb _ _ (w .2 .left) in
+    (rw (w .3) (seen-next b i (l .places) s (omega arith) (omega (arith, resource-number _ r)) f), cell-right b i (omega arith) r f))
+    (λ w. (rw (w .1) (seen-past b i (l .places) s (omega arith)), cell-past b i (w .0 .left) ∙ (rw (le-ltb i (b .len) (w .0 .left)) at e)))
+    (c .before .if3 .came) in
+    (refl, omega arith, omega arith, j .0, valid-next b i (c .before .before .before .before .before .loop-test .taken) (l .inv .4) (j .1), length-set (l .lens) i _ ∙ l .inv .5, filled-next (λ k. resourceAt b k .timeline .len) (l .lens) i _ 0 (omega (arith, l .inv .5)) (l .inv .6) refl)
 
 transport-right-requires : tie.Need-transport-right-requires Inv-loop μ-loop
 transport-right-requires c κs = search needs
 
-returns-5 : tie.Need-returns-5 Inv-loop μ-loop
-returns-5 c =
+returns-4 : tie.Need-returns-4 Inv-loop μ-loop
+returns-4 c =
     let b = c .before .before .before .before .before .before .before .args .t1 in
     let s = read-all b (c .before .before .before .before .before .loop .i) (c .before .before .before .before .before .loop .places) (c .before .before .before .before .before .loop .inv .3) (omega arith) in
     let r = c .before .before .before .before .before .loop .inv .6 in
@@ -126,4 +138,4 @@ returns-5 c =
 pub places-of-spec : {M : Type 1} → statement M
 places-of-spec =
     tie.close
-    (tie.spec Inv-loop μ-loop returns loop-holds mul-r element-copy-out-r cell-right-requires returns-2 cast-number mul-if4 array-read-if4 returns-3 mul-places array-write-places cell-right-requires-2 returns-4 mul-lens array-write-lens add-i loop-less loop-again transport-right-requires returns-5)
+    (tie.spec Inv-loop μ-loop returns loop-holds mul-r element-copy-out-r cell-right-requires returns-2 cast-number mul-if4 array-read-if4 returns-3 mul-places array-write-places mul-lens array-write-lens add-i loop-less loop-again transport-right-requires returns-4)

@@ -42,11 +42,11 @@ loop-holds c =
     (state-start (d .args .t1) (d .pre .0) (d .args .t2) (d .args .ready) (d .pre .1) (d .pre .2) (simp length-map at (d .good .1 .0 .1 .1 .1 .1 .1 .1 .1 .1 .0 .1 .0 .1)) _ _ (ap length (c .before .before .no-plans .ensures))
     (ap (λ (x : Rounds). x .done) n) (ap (λ (x : Rounds). x .instant) n) (ap (λ (x : Rounds). x .choice .chosen) n) (ap (λ (x : Rounds). x .choice .instant) n))
 
-mul-r : tie.Need-mul-r Inv-loop μ-loop
-mul-r c = record { fits = omega (arith, c .before .before .before .loop .inv .few, c .if2 .taken) }
+mul-plan-of : tie.Need-mul-plan-of Inv-loop μ-loop
+mul-plan-of c = record { fits = omega (arith, c .before .before .before .loop .inv .few, c .if2 .taken) }
 
-element-copy-out-r : tie.Need-element-copy-out-r Inv-loop μ-loop
-element-copy-out-r c = omega (arith, c .before .before .before .loop .inv .few, c .if2 .taken)
+element-copy-out-plan-of : tie.Need-element-copy-out-plan-of Inv-loop μ-loop
+element-copy-out-plan-of c = omega (arith, c .before .before .before .loop .inv .few, c .if2 .taken)
 
 plan-of-requires : tie.Need-plan-of-requires Inv-loop μ-loop
 plan-of-requires c κs =
@@ -126,20 +126,20 @@ array-read-is-asked-2 c = omega (arith, c .before .before .before .before .loop 
 is-asked-requires : tie.Need-is-asked-requires Inv-loop μ-loop
 is-asked-requires c κs = search needs
 
-mul-q : tie.Need-mul-q Inv-loop μ-loop
-mul-q c = record { fits = omega (arith, c .before .before .before .before .before .before .loop .inv .four, c .before .before .if3 .left) }
-
-element-copy-out-q : tie.Need-element-copy-out-q Inv-loop μ-loop
-element-copy-out-q c = omega (arith, c .before .before .before .before .before .before .loop .inv .four, c .before .before .if3 .left)
-
 mul-p : tie.Need-mul-p Inv-loop μ-loop
 mul-p c = record { fits = omega arith }
 
 array-copy-out-p : tie.Need-array-copy-out-p Inv-loop μ-loop
 array-copy-out-p c = omega arith
 
+mul-member-of : tie.Need-mul-member-of Inv-loop μ-loop
+mul-member-of c = record { fits = omega (arith, c .before .before .before .before .before .before .before .loop .inv .four, c .before .before .before .if3 .left) }
+
+element-copy-out-member-of : tie.Need-element-copy-out-member-of Inv-loop μ-loop
+element-copy-out-member-of c = omega (arith, c .before .before .before .before .before .before .before .loop .inv .four, c .before .before .before .if3 .left)
+
 -- who is asked next
-next : (c : tie.After-p Inv-loop μ-loop)
+next : (c : tie.After-member-of-arg Inv-loop μ-loop)
     → Next (c .before .before .before .before .before .before .before .before .before .before .before .before .args .t1) (c .before .before .before .before .before .before .before .before .before .before .before .before .args .t2) (c .before .before .before .before .before .before .before .before .before .before .before .before .args .ready) (c .before .before .before .before .before .before .before .before .loop .k % 16) (c .before .before .before .before .before .before .before .before .loop .x .instant) (requirementAt (c .before .before .before .before .before .before .before .before .before .before .before .before .args .t2) (c .before .before .before .before .before .before .before .before .loop .k / 16)) (getD (c .before .before .before .before .before .before .before .before .loop .plans) (c .before .before .before .before .before .before .before .before .loop .k % 16) noPlan) (c .before .before .before .before .before .before .before .before .loop .g)
 next c =
     let d = c .before .before .before .before .before .before .before .before .before .before .before .before in
@@ -155,18 +155,18 @@ member-of-requires c κs =
     let r = companions-range _ _ _ _ _ _ (d .pre .0) (d .pre .1) (d .args .places) (d .pre .3) _ _ n in
     (number-range _ _ _ _ _ _ (d .pre .0) (d .pre .1) (d .args .places) (d .pre .3) _ _ n, r .0, r .1)
 
-mul-r-2 : tie.Need-mul-r-2 Inv-loop μ-loop
-mul-r-2 c = record { fits = omega (arith, c .if5 .taken) }
+mul-r : tie.Need-mul-r Inv-loop μ-loop
+mul-r c = record { fits = omega (arith, c .if5 .taken) }
 
-element-copy-out-r-2 : tie.Need-element-copy-out-r-2 Inv-loop μ-loop
-element-copy-out-r-2 c = c .if5 .taken
+element-copy-out-r : tie.Need-element-copy-out-r Inv-loop μ-loop
+element-copy-out-r c = c .if5 .taken
 
 start-on-requires : tie.Need-start-on-requires Inv-loop μ-loop
 start-on-requires c κs =
-    let d = c .before .before .before .before .before .before .before .before .before .before .before .before .before .before .before .before in
-    let n = next (c .before .before .before .before) in
-    let e = c .before .before .before .member-of .ensures in
-    let h = c .before .before .if5 .taken in
+    let d = c .before .before .before .before .before .before .before .before .before .before .before .before .before .before .before in
+    let n = next (c .before .before .before) in
+    let e = c .before .before .member-of .ensures in
+    let h = c .before .if5 .taken in
     (diary-kept _ _ _ _ _ _ (d .pre .0) (d .pre .1) (d .args .places) (d .pre .3) _ _ n _ e h, from-small _ _ _ _ _ _ (d .pre .0) (d .pre .1) (d .args .places) (d .pre .3) _ _ n _ e h, span-small _ _ _ _ _ _ (d .pre .0) (d .pre .1) (d .args .places) (d .pre .3) _ _ n, units-some _ _ _ _ _ _ (d .pre .0) (d .pre .1) (d .args .places) (d .pre .3) _ _ n _ e h)
 
 answered-requires : tie.Need-answered-requires Inv-loop μ-loop
@@ -194,7 +194,7 @@ told c =
     let e = c .before .before .member-of .ensures in
     rw (c .answered .ensures)
     (⊎-elim
-    (λ y. told-asked _ _ _ _ _ _ (d .pre .0) (d .pre .1) (d .args .places) (d .pre .3) _ _ n _ e (y .0 .taken) _ (ap startOf (y .4) ∙ y .3 .ensures))
+    (λ y. told-asked _ _ _ _ _ _ (d .pre .0) (d .pre .1) (d .args .places) (d .pre .3) _ _ n _ e (y .0 .taken) _ (ap startOf (y .3) ∙ y .2 .ensures))
     (λ y. rw (y .1) (told-nowhere _ _ _ _ _ _ (d .pre .0) (d .pre .1) (d .args .places) (d .pre .3) _ _ n _ e (y .0 .left)))
     (c .before .if5 .came))
 
@@ -263,8 +263,8 @@ choose-spec =
     begun-requires
     unasked-requires
     loop-holds
-    mul-r
-    element-copy-out-r
+    mul-plan-of
+    element-copy-out-plan-of
     plan-of-requires
     mul-plans
     array-set-from-plans
@@ -280,13 +280,13 @@ choose-spec =
     mul-is-asked-2
     array-read-is-asked-2
     is-asked-requires
-    mul-q
-    element-copy-out-q
     mul-p
     array-copy-out-p
+    mul-member-of
+    element-copy-out-member-of
     member-of-requires
-    mul-r-2
-    element-copy-out-r-2
+    mul-r
+    element-copy-out-r
     start-on-requires
     answered-requires
     mul-asked
