@@ -44,6 +44,10 @@ pub record Asks (b : Board) (es : List Entry) (n : ℕ) (places : List ℕ) (fir
   pub own : timeline.valid first ≡ true
   pub entries : EntriesOn b es n
 
+-- the entry that is read for the i-th diary: its number and its place are below 16
+abbrev pub Small : List Entry → List ℕ → ℕ → Type 0
+Small es places i = (getD es (i - 1) noEntry .number < 16) × (getD places (getD es (i - 1) noEntry .number) 0 < 16)
+
 module _ (b : Board) (es : List Entry) (n : ℕ) (first : ResourceTimeline) where
   abbrev pub those : List Share
   those = record { timeline = first; units = 1 } ∷ sharesOf b (take n es)
@@ -67,11 +71,8 @@ module _ (b : Board) (es : List Entry) (n : ℕ) (first : ResourceTimeline) wher
       placed : (entry .number < 16) × (lookup b (entry .number) ≡ at (getD places (entry .number) 0)) × (getD places (entry .number) 0 < b .len)
       placed = number-place b (a .board) places (a .known) (entry .number) (a .entries .each (i - 1) (omega arith) .0)
 
-      pub number-small : entry .number < 16
-      number-small = placed .0
-
-      pub place-small : getD places (entry .number) 0 < 16
-      place-small = omega (arith, placed .2, rules b (a .board) .few)
+      pub entry-small : Small es places i
+      entry-small = (placed .0, omega (arith, placed .2, rules b (a .board) .few))
 
       pub read-share : shareAt b (getD places (entry .number) 0) (entry .units) ≡ getD those i noShare
       unfolding resourceIn

@@ -22,7 +22,7 @@ use Rattle.scheduler.specs.Fitting.{endOf}
 use Rattle.scheduler.specs.Shares.{noShare}
 use Rattle.scheduler.specs.Owning.{ownShare, leastOn, fitting-on}
 use Rattle.fitting.specs.Closing.{withEnd, closing, fitOf}
-use Rattle.fitting.proofs.Reading.{Asks, those, instants, asks-own, asks-long, asks-sound, asks-kept, number-small, place-small, read-share, own-share}
+use Rattle.fitting.proofs.Reading.{Asks, those, instants, asks-own, asks-long, asks-sound, asks-kept, Small, entry-small, read-share, own-share}
 use Rattle.resuming.specs.declared.Trial.{Trial}
 use Rattle.resuming.proofs.Resuming.{Least}
 use Rattle.resuming.proofs.Walking.{State, state-start, state-cell, state-asked, state-found, state-over, state-begun, Onward, onward-laid, onward-next, gathers-ruled, left, left-asked, left-laid, left-on, event-stop}
@@ -77,33 +77,21 @@ cast-r c = search needs
 mul-r : tie.Need-mul-r Inv-loop μ-loop
 mul-r c = search needs
 
+-- the number and the place of the entry that is read
+small : (c : tie.Then3 Inv-loop μ-loop) → Small (c .before .before .before .before .before .before .before .args .t2 .entries) (c .before .before .before .before .before .before .before .args .t3) (c .before .before .before .before .loop .i)
+small c =
+    let a = c .before .before .before .before .before .before .before .args in
+    let k = c .before .before .before .before .loop in
+    entry-small (a .t1) (a .t2 .entries) (a .t2 .count) (c .before .before .before .before .before .before .own-timeline .result) (a .t3) (k .inv .0) (k .i) (c .if3 .taken) (c .before .if2 .taken)
+
 array-read-r : tie.Need-array-read-r Inv-loop μ-loop
-array-read-r c =
-    let a = c .before .before .before .before .before .before .before .before .before .args in
-    let k = c .before .before .before .before .before .before .loop in
-    let first = c .before .before .before .before .before .before .before .before .own-timeline .result in
-    let l = c .before .before .before .if2 .taken in
-    let p = c .before .before .if3 .taken in
-    number-small (a .t1) (a .t2 .entries) (a .t2 .count) first (a .t3) (k .inv .0) (k .i) p l
+array-read-r c = small (c .before .before) .0
 
 mul-r-2 : tie.Need-mul-r-2 Inv-loop μ-loop
-mul-r-2 c =
-    let a = c .before .before .before .before .before .before .before .before .before .args in
-    let k = c .before .before .before .before .before .before .loop in
-    let first = c .before .before .before .before .before .before .before .before .own-timeline .result in
-    let l = c .before .before .before .if2 .taken in
-    let p = c .before .before .if3 .taken in
-    let small = place-small (a .t1) (a .t2 .entries) (a .t2 .count) first (a .t3) (k .inv .0) (k .i) p l in
-    search needs
+mul-r-2 c = let s = small (c .before .before) .1 in search needs
 
 element-copy-out-r : tie.Need-element-copy-out-r Inv-loop μ-loop
-element-copy-out-r c =
-    let a = c .before .before .before .before .before .before .before .before .before .args in
-    let k = c .before .before .before .before .before .before .loop in
-    let first = c .before .before .before .before .before .before .before .before .own-timeline .result in
-    let l = c .before .before .before .if2 .taken in
-    let p = c .before .before .if3 .taken in
-    place-small (a .t1) (a .t2 .entries) (a .t2 .count) first (a .t3) (k .inv .0) (k .i) p l
+element-copy-out-r c = small (c .before .before) .1
 
 joined : (c : tie.Joined3 Inv-loop μ-loop) → record { timeline = c .if3 .d; units = c .if3 .units } ≡ getD (those (c .before .before .before .before .before .before .before .args .t1) (c .before .before .before .before .before .before .before .args .t2 .entries) (c .before .before .before .before .before .before .before .args .t2 .count) (c .before .before .before .before .before .before .own-timeline .result)) (c .before .before .before .before .loop .i) noShare
 joined c =
