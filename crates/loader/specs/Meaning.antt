@@ -30,10 +30,10 @@ abbrev pub spanOf : TimeWindow → Span
 spanOf w = record { start = w .start; end = w .end }
 
 -- a record that no window or block before it could make bad: two instants, the end after the start
-abbrev Good : TimeWindow → Type 0
+abbrev pub Good : TimeWindow → Type 0
 Good w = (w .end ≤ lastInstant) × (w .start < w .end)
 
-abbrev AllGood : List TimeWindow → Type 0
+abbrev pub AllGood : List TimeWindow → Type 0
 AllGood [] = Unit {0}
 AllGood (w ∷ ws) = Good w × AllGood ws
 

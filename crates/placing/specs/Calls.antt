@@ -25,7 +25,7 @@ pub record Called (b : Board) (a : Activity) (ready : ℕ) (slate : List (List �
   pub rows : after ≡ slateAfter (placeReply b a ready (length slate)) slate
 
 -- no extra is on the resource of a row
-abbrev RowSpared : Board → Board → List ℕ → Type 0
+abbrev pub RowSpared : Board → Board → List ℕ → Type 0
 RowSpared b c row = NoExtra b c (getD row 0 0)
 
 -- The first call's answer r and slate `after`, the second's q and `later`, on a board with extra bookings.
