@@ -15,10 +15,10 @@ use Rattle.activity.specs.declared.ResourceTiming.the-variants.{Nothing,
 use Rattle.activity.specs.declared.Timed.{Timed}
 use Rattle.activity.specs.declared.timing.Fixed.{Fixed}
 use Rattle.activity.specs.declared.timing.Fixed.the-variants.{Unset, Own}
-use Rattle.speeds.specs.Speeds.{one, processAt, Within}
+use Rattle.activity_speeds.specs.Speeds.{one, processAt, Within}
 use Rattle.activity.specs.Durations.{timingOf, heldTimings, total, Leading, nobody, owned, greater, greatest, times, product, settled, durationOn}
 use Rattle.activity.specs.Lawful.{LawfulTiming, LawfulLead, leadingOf}
-use Rattle.speeds.proofs.Bounds.{within-more, within-mul, speed-within, one-within}
+use Rattle.activity_speeds.proofs.Bounds.{within-more, within-mul, speed-within, one-within}
 
 -- one timing more: the product stays from 4 ^ -k to 4 ^ k, and what leads stays short
 times-within : (k : ℕ) (p : Float) (t : ResourceTiming) → k + 1 ≤ 26 → Within k p → LawfulTiming t → Within (k + 1) (times p t)

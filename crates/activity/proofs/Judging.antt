@@ -1,6 +1,6 @@
 -- The refusals of an order one by one, and what an order that is not refused keeps.
 use mathlib.Core.Path.{_≡_, refl, sym}
-use mathlib.Core.Bool.{Bool, true, false, not, _&&_, _||_, cond}
+use mathlib.Core.Bool.{Bool, true, false, not, _&&_, _||_, cond, and-false}
 use mathlib.Core.List.{List}
 use Prim.Native.Nat.{ℕ, _^_, _≤_, _<_}
 use native.Mathlib.Omega.{arith}
@@ -8,7 +8,7 @@ use lib.Dec.{leb, ltb}
 use lib.ListN.{getD, length, take}
 use lib.Seq.{getD-take}
 use borrow.Author.Tests.{lt-ltb, le-ltb, le-leb, lt-leb, leb-true, ltb-false, not-false}
-use Rattle.calendar.specs.Basics.{and-split, and-join, and-false, or-left, or-right, unrefused}
+use Rattle.cells.specs.Laws.Basics.{and-split, and-join, or-left, or-right, unrefused}
 use Rattle.activity.specs.declared.ActivityDuration.{ActivityDuration}
 use Rattle.activity.specs.declared.ResourceTiming.{ResourceTiming}
 use Rattle.activity.specs.declared.ResourceTiming.the-variants.{Nothing, Speed, Duration}
@@ -16,10 +16,10 @@ use Rattle.activity.specs.declared.Timed.{Timed}
 use Rattle.activity.specs.declared.ResourceRequirement.{ResourceRequirement}
 use Rattle.activity.specs.declared.Activity.{Activity}
 use Rattle.activity.specs.Durations.{untimed, timingOf}
-use Rattle.calendar.specs.Every.{every, every-at, every-in, every-of}
-use Rattle.activity.specs.Check.{releaseRight, short, timingShort, timingSpeed, quantity, quantityRight, quantitiesRight, usageRight, requirementsOf, timesRight, activityRefusal, heldRight}
+use Rattle.cells.specs.Every.{every}
+use Rattle.cells.specs.Laws.Every.{every-at, every-in, every-of}
+use Rattle.activity.specs.Check.{releaseRight, short, timingShort, timingSpeed, quantity, quantityRight, quantitiesRight, usageRight, requirementsOf, timesRight, activityRefusal, heldRight, noRequirement}
 use Rattle.activity.specs.Lawful.{Short, LawfulTiming, Lawful}
-use Rattle.activity.specs.Check.{noRequirement}
 
 -- the timings of an order in range
 abbrev allShort : Activity → Bool

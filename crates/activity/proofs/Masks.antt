@@ -7,7 +7,7 @@ use native.Mathlib.Omega.{arith}
 use lib.Bits.{bitAnd, and-step, and-zero-l}
 use lib.Dec.{leb}
 use borrow.Author.Tests.{le-leb, leb-true}
-use Rattle.calendar.specs.Basics.{and-split}
+use Rattle.cells.specs.Laws.Basics.{and-split}
 use Rattle.activity.specs.Serving.{covers}
 
 -- a and b is a: every bit of a is set in b

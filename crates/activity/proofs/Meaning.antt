@@ -15,7 +15,7 @@ use lib.Ieee.{Float, fin, binary64, round, eq, div, ofInt, fits}
 use lib.Ieee.Exact.{round-exact}
 use lib.Ieee.Positive.{num, den, positive}
 use borrow.Author.Tests.{lt-ltb, le-ltb, le-leb, leb-true, eq-eqb, ne-eqb, eqb-true, eqb-false}
-use Rattle.calendar.specs.Basics.{and-split, and-join, lt-or-ge}
+use Rattle.cells.specs.Laws.Basics.{and-split, and-join, lt-or-ge}
 use Rattle.activity.specs.declared.ActivityDuration.{ActivityDuration}
 use Rattle.activity.specs.declared.ResourceTiming.{ResourceTiming}
 use Rattle.activity.specs.declared.ResourceTiming.the-variants.{Nothing, Speed, Duration}
@@ -23,17 +23,17 @@ use Rattle.activity.specs.declared.Timed.{Timed}
 use Rattle.activity.specs.declared.ResourceRequirement.{ResourceRequirement}
 use Rattle.activity.specs.declared.Release.{Release}
 use Rattle.activity.specs.declared.Release.the-variants.{Absent, At}
-use Rattle.speeds.specs.Speeds.{one, isSpeed, halfUp, roundAway, processAt, Near, Within}
+use Rattle.activity_speeds.specs.Speeds.{one, isSpeed, halfUp, roundAway, processAt, Near, Within}
 use Rattle.activity.specs.Durations.{timingOf, heldTimings, total, Leading, nobody, owned, greater, greatest, product, settled, durationOn}
 use Rattle.calendar.specs.Sets.{bit}
 use Rattle.activity.specs.Serving.{covers, candidate, serves}
 use Rattle.activity.specs.Ready.{readyOf}
 use Rattle.activity.specs.Check.{releaseRight}
 use Rattle.activity.specs.Lawful.{LawfulLead, Lawful}
-use Rattle.speeds.proofs.Rounding.{away-of-value, half-up-whole, half-up-same}
-use Rattle.speeds.proofs.Bounds.{within-positive, within-more, speed-within, one-within, div-at, whole-value, num-pos, positive-plain}
-use Rattle.speeds.proofs.Nearness.{eq-one, process-near, process-le}
-use Rattle.speeds.proofs.Identity.{one-times}
+use Rattle.activity_speeds.proofs.Rounding.{away-of-value, half-up-whole, half-up-same}
+use Rattle.activity_speeds.proofs.Bounds.{within-positive, within-more, speed-within, one-within, div-at, whole-value, num-pos, positive-plain}
+use Rattle.activity_speeds.proofs.Nearness.{eq-one, process-near, process-le}
+use Rattle.activity_speeds.proofs.Identity.{one-times}
 use Rattle.activity.proofs.Holding.{product-within, greatest-lawful}
 
 -- Rounding: what `half-up-bounds` says of `halfUp a c` is true of no other r.

@@ -5,7 +5,7 @@ use mathlib.Core.List.{List, [], _∷_}
 use lib.ListN.{take}
 use lib.Dec.{leb, ltb}
 use Rattle.calendar.specs.Refusals.{refusedOr}
-use Rattle.calendar.specs.Every.{every}
+use Rattle.cells.specs.Every.{every}
 use Rattle.calendar.specs.Limits.{lastInstant, longestDuration, mostUnits}
 use Rattle.calendar.specs.Valid.{valid}
 use Rattle.activity.specs.declared.ActivityDuration.{ActivityDuration}
@@ -17,7 +17,7 @@ use Rattle.activity.specs.declared.Release.the-variants.{Absent, At}
 use Rattle.activity.specs.declared.Activity.{Activity}
 use Rattle.activity.specs.declared.DurationAnswer.{DurationAnswer}
 use Rattle.activity.specs.declared.DurationAnswer.the-variants.{Lasts, Refused}
-use Rattle.speeds.specs.Speeds.{isSpeed}
+use Rattle.activity_speeds.specs.Speeds.{isSpeed}
 use Rattle.activity.specs.Durations.{durationOn}
 
 -- an instant is 0 to 2^42; an absent release is not checked

@@ -9,7 +9,7 @@ use Rattle.activity.specs.declared.ActivityDuration.{ActivityDuration}
 use Rattle.activity.specs.declared.ResourceTiming.{ResourceTiming}
 use Rattle.activity.specs.declared.ResourceTiming.the-variants.{Nothing, Speed, Duration}
 use Rattle.activity.specs.declared.Timed.{Timed}
-use Rattle.speeds.specs.Speeds.{one, processAt}
+use Rattle.activity_speeds.specs.Speeds.{one, processAt}
 
 -- what stands past the end of a list of timings
 abbrev pub untimed : Timed

@@ -12,11 +12,11 @@ use Rattle.activity.specs.declared.ResourceTiming.the-variants.{Speed, D
 use Rattle.activity.specs.declared.Timed.{Timed}
 use Rattle.activity.specs.declared.Release.the-variants.{Absent}
 use Rattle.activity.specs.declared.Activity.{Activity}
-use Rattle.speeds.specs.Speeds.{one, quarter, four, halfUp, roundAway, processAt, isSpeed}
+use Rattle.activity_speeds.specs.Speeds.{one, quarter, four, halfUp, roundAway, processAt, isSpeed}
 use Rattle.activity.specs.Durations.{untimed, greatest, product, durationOn}
 use Rattle.calendar.specs.Sets.{bit}
 use Rattle.activity.specs.Serving.{covers, candidate, serves}
-use Rattle.calendar.specs.Every.{every}
+use Rattle.cells.specs.Every.{every}
 use Rattle.activity.specs.Check.{releaseRight, short, quantity, quantitiesRight, usageRight, timesRight, activityRefusal}
 
 -- 2.0, 0.5

@@ -7,7 +7,7 @@ use crate::Timed;
 use crate::timing::Fixed;
 use crate::timing::greater;
 use crate::timing::times;
-use speeds::process_at;
+use activity_speeds::process_at;
 ghost use mathlib.Core.Path.{_≡_};
 ghost use Prim.Native.Nat.{ℕ, _≤_, _<_};
 ghost use lib.ListN.{getD, take};

@@ -7,7 +7,7 @@ use Prim.Native.Nat.{ℕ, zero, suc, _+_, _≤_, _<_}
 use native.Mathlib.Nat.{eq-or-lt-of-le}
 use native.Mathlib.Omega.{arith}
 use lib.Dec.{ltb}
-use Rattle.calendar.specs.Basics.{same-or-not}
+use Rattle.cells.specs.Laws.Basics.{same-or-not}
 use Rattle.board.proofs.Facts.{same-side}
 
 unfoldable pub countTo : (ℕ → Bool) → ℕ → ℕ

@@ -7,13 +7,14 @@ use Prim.Native.Nat.{ℕ, suc, _+_, _-_, _≤_, _<_}
 use native.Mathlib.Numerals.{lt-of-le-of-ne}
 use native.Mathlib.Omega.{arith}
 use lib.Dec.{leb, ltb}
-use Rattle.calendar.specs.Basics.{and-split, and-join, lt-or-ge}
-use Rattle.calendar.specs.Search.{Found, nothing, at}
-use Rattle.board.specs.Resources.{resourceAt, numberAt, lookupTo, lookup, isAt}
+use Rattle.cells.specs.Laws.Basics.{and-split, and-join, lt-or-ge}
+use Rattle.calendar.specs.Search.{Found, nothing, at, isAt}
+use Rattle.board.specs.Resources.{resourceAt, numberAt, lookupTo, lookup}
 use Rattle.board.specs.Valid.{resourceRight, resourceBlank, cellRight, transportRight, valid}
 use Rattle.board.specs.declared.Board.{Board}
 use Rattle.board.specs.declared.Resource.{Resource}
-use Rattle.calendar.specs.Every.{everyFrom, from-step, from-end, from-at, from-all}
+use Rattle.cells.specs.Every.{everyFrom}
+use Rattle.cells.specs.Laws.Every.{from-step, from-end, from-at, from-all}
 use Rattle.board.proofs.Seeing.{lookup-below, lookup-number}
 
 pub resource-number : (r : Resource) → resourceRight r ≡ true → r .number ≤ 15

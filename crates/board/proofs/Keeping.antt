@@ -1,5 +1,5 @@
 -- A board stays valid where a resource is replaced by a right one with its number; and the empty board is.
-use mathlib.Core.Bool.{Bool, true, false, _&&_}
+use mathlib.Core.Bool.{Bool, true, false, _&&_, or-true}
 use mathlib.Core.Logic.{⊎-elim}
 use mathlib.Core.Path.{_≡_, refl, ap, _∙_}
 use Prim.Native.Nat.{ℕ, _/_, _%_, _^_, _<_}
@@ -7,12 +7,12 @@ use native.Mathlib.Omega.{arith}
 use lib.Dec.{leb, eqb}
 use lib.ListN.{length, getD, getD-replicate}
 use lib.Seq.{getD-set-same, getD-set-other}
-use Rattle.calendar.specs.Basics.{and-split, same-or-not, or-true}
-use Rattle.calendar.specs.Search.{Found, nothing, at, leastFrom}
+use Rattle.cells.specs.Laws.Basics.{and-split, same-or-not}
+use Rattle.calendar.specs.Search.{Found, nothing, at, leastFrom, isAt}
 use Rattle.calendar.specs.Searching.{least-same}
-use Rattle.calendar.specs.Every.{everyFrom}
+use Rattle.cells.specs.Every.{everyFrom}
 use Rattle.board.specs.Enter.{blankResource, emptyBoard, withResource, changed}
-use Rattle.board.specs.Resources.{noResource, resourceAt, numberAt, lookupTo, lookup, isAt, onBoard}
+use Rattle.board.specs.Resources.{noResource, resourceAt, numberAt, lookupTo, lookup, onBoard}
 use Rattle.board.specs.Valid.{isZero, matrixRight, companionsRight, resourceRight, calendarBlank, diaryBlank, lastBlank, resourceBlank, transportCell, transportRight, valid}
 use Rattle.board.specs.declared.Board.{Board}
 use Rattle.board.specs.declared.Resource.{Resource}

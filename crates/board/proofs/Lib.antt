@@ -8,3 +8,4 @@ pub mod Setting
 pub mod Replying
 pub mod Meaning
 pub mod Keeping
+pub mod Knowing

@@ -7,7 +7,7 @@ use native.Mathlib.Omega.{arith}
 use lib.Dec.{leb, eqb}
 use lib.IntN.{ℤ, pos, negsuc}
 use lib.ListN.{getD}
-use Rattle.calendar.specs.Basics.{and-split}
+use Rattle.cells.specs.Laws.Basics.{and-split}
 use Rattle.calendar.specs.Search.{at}
 use Rattle.board.specs.Resources.{resourceAt, numberAt, lookupTo, lookup, onBoard}
 use Rattle.board.specs.Setups.{entryOr, matrixSetup, setupMs}
@@ -20,7 +20,8 @@ use Rattle.board.specs.declared.LastCategory.{LastCategory}
 use Rattle.board.specs.declared.LastCategory.the-variants.{Nothing, Category}
 use Rattle.board.specs.declared.Resource.{Resource}
 use Rattle.board.specs.declared.TransitionMatrix.{TransitionMatrix}
-use Rattle.calendar.specs.Every.{everyFrom, from-at}
+use Rattle.cells.specs.Every.{everyFrom}
+use Rattle.cells.specs.Laws.Every.{from-at}
 use Rattle.board.proofs.Facts.{rules}
 use Rattle.board.proofs.Masks.{greatest-none, greatest-next}
 use Rattle.board.proofs.Seeing.{lookup-below, lookup-number, nothing-of}

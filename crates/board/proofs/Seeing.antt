@@ -9,10 +9,10 @@ use native.Mathlib.Omega.{arith}
 use lib.Dec.{ltb, eqb}
 use lib.ListN.{length, getD, set, replicate, length-set, getD-replicate}
 use lib.Seq.{getD-set-same, getD-set-other}
-use Rattle.calendar.specs.Basics.{lt-or-ge, same-or-not, not-both}
-use Rattle.calendar.specs.Search.{Found, nothing, at, leastFrom}
+use Rattle.cells.specs.Laws.Basics.{lt-or-ge, same-or-not, not-both}
+use Rattle.calendar.specs.Search.{Found, nothing, at, leastFrom, isAt}
 use Rattle.board.specs.Places.{placeOf}
-use Rattle.board.specs.Resources.{numberAt, lookupTo, isAt}
+use Rattle.board.specs.Resources.{numberAt, lookupTo}
 use Rattle.board.specs.declared.Board.{Board}
 use Rattle.calendar.specs.Searching.{least-found, least-none, least-is}
 

@@ -8,9 +8,11 @@ use native.Mathlib.Omega.{arith}
 use lib.Dec.{ltb}
 use lib.IntN.{pos}
 use lib.ListN.{getD, set}
-use Rattle.board.specs.Resources.{numberAt, lookupTo, isAt}
+use Rattle.board.specs.Resources.{numberAt, lookupTo}
+use Rattle.calendar.specs.Search.{isAt}
 use Rattle.board.specs.Setups.{entryOr, matrixSetup, setupMs}
-use Rattle.calendar.specs.Every.{everyFrom, from-same}
+use Rattle.cells.specs.Every.{everyFrom}
+use Rattle.cells.specs.Laws.Every.{from-same}
 use Rattle.board.specs.Valid.{lastRight, transportCell, transportRight}
 use Rattle.board.specs.declared.Board.{Board}
 use Rattle.board.specs.declared.LastCategory.{LastCategory}

@@ -5,7 +5,7 @@ use mathlib.Core.List.{List, _++_}
 use lib.ListN.{length, set, replicate}
 use lib.Dec.{leb, ltb}
 use lib.IntN.{ℤ, pos, negsuc}
-use Rattle.calendar.specs.Every.{every}
+use Rattle.cells.specs.Every.{every}
 use Rattle.calendar.specs.Limits.{longestDuration}
 use Rattle.calendar.specs.Add.{empty}
 use Rattle.calendar.specs.Search.{Found, nothing, at}

@@ -5,8 +5,7 @@ use mathlib.Core.List.{List, []}
 use lib.ListN.{getD, take}
 use lib.Dec.{eqb}
 use lib.IntN.{pos}
-use Rattle.calendar.specs.Search.{Found, leastFrom}
-unfoldable pub use Rattle.calendar.specs.Search.{isAt}
+use Rattle.calendar.specs.Search.{Found, leastFrom, isAt}
 use Rattle.timeline.specs.declared.ResourceTimeline.{ResourceTimeline}
 use Rattle.board.specs.declared.TransitionMatrix.{TransitionMatrix}
 use Rattle.board.specs.declared.LastCategory.the-variants.{Nothing}

@@ -4,12 +4,12 @@ use mathlib.Core.Path.{_≡_, refl}
 use mathlib.Core.List.{[], _∷_}
 use lib.ListN.{replicate, set}
 use lib.IntN.{pos}
-use Rattle.calendar.specs.Search.{leastFrom, greatestOf}
+use Rattle.calendar.specs.Search.{leastFrom, greatestOf, isAt}
 use Rattle.board.specs.declared.TransitionMatrix.{TransitionMatrix}
 use Rattle.board.specs.declared.LastCategory.the-variants.{Nothing, Category}
 use Rattle.board.specs.declared.Resource.{Resource}
 use Rattle.board.specs.declared.Board.{Board}
-use Rattle.board.specs.Resources.{lookupTo, isAt}
+use Rattle.board.specs.Resources.{lookupTo}
 use Rattle.board.specs.Setups.{entryOr, matrixSetup, setupMs}
 use Rattle.calendar.specs.Sets.{bit}
 use Rattle.board.specs.Transport.{placesFrom, greatestTransport, transportTo}

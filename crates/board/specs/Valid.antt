@@ -7,7 +7,7 @@ use lib.ListN.{getD}
 use lib.Dec.{leb, ltb, eqb}
 use lib.IntN.{ℤ, pos, negsuc}
 use Rattle.calendar.specs.Limits.{longestDuration}
-use Rattle.calendar.specs.Every.{everyFrom}
+use Rattle.cells.specs.Every.{everyFrom}
 use Rattle.calendar.specs.declared.Calendar.{Calendar}
 use Rattle.calendar.specs.Valid as calendar
 use Rattle.timeline.specs.declared.ResourceTimeline.{ResourceTimeline}
@@ -17,7 +17,8 @@ use Rattle.board.specs.declared.LastCategory.{LastCategory}
 use Rattle.board.specs.declared.LastCategory.the-variants.{Nothing, Category}
 use Rattle.board.specs.declared.Resource.{Resource}
 use Rattle.board.specs.declared.Board.{Board}
-use Rattle.board.specs.Resources.{resourceAt, numberAt, lookupTo, isAt, onBoard}
+use Rattle.board.specs.Resources.{resourceAt, numberAt, lookupTo, onBoard}
+use Rattle.calendar.specs.Search.{isAt}
 
 -- a duration: 0 to 2^36
 unfoldable pub durationRight : ℤ → Bool

@@ -1,18 +1,17 @@
 -- The replies of a diary looked up and of one put back, over plain values.
-use mathlib.Core.Bool.{Bool, true, false, not, cond}
+use mathlib.Core.Bool.{Bool, true, false, not, cond, and-true, or-true, or-false}
 use mathlib.Core.Path.{_≡_, refl}
 use Prim.Native.Nat.{ℕ}
 use native.Mathlib.Omega.{arith}
-use Rattle.calendar.specs.Basics.{and-true, or-true, or-false}
-use Rattle.calendar.specs.Search.{Found, nothing, at}
+use Rattle.calendar.specs.Search.{Found, nothing, at, isAt}
 use Rattle.board.specs.Enter.{blankDiary, entered, withResource, changed, lookedAt, timelineOfReply, withTimeline, putRefusal, putTimelineReply}
-use Rattle.resource_numbers.specs.Entry.{entryAt, entryFor}
-use Rattle.board.specs.Resources.{resourceAt, lookup, isAt, onBoard}
+use Rattle.board_numbers.specs.Entry.{entryAt, entryFor}
+use Rattle.board.specs.Resources.{resourceAt, lookup, onBoard}
 use Rattle.board.specs.Valid.{valid}
 use Rattle.board.specs.declared.Board.{Board}
-use Rattle.resource_numbers.specs.declared.PlaceFor.{PlaceFor}
+use Rattle.board_numbers.specs.declared.PlaceFor.{PlaceFor}
 use Rattle.board.proofs.Replying.{refused-by}
-use Rattle.resource_numbers.proofs.Finding.{entry-refusal}
+use Rattle.board_numbers.proofs.Finding.{entry-refusal}
 use Rattle.timeline.specs.declared.ResourceTimeline.{ResourceTimeline}
 use Rattle.timeline.specs.Valid as timeline
 

@@ -10,7 +10,7 @@ ghost use Rattle.board.specs.Enter.{timelineOfReply, putTimelineReply};
 pub fn timeline_of(board: Board, number: u8) -> Looked
     ensures { λ r. ⌜ r ≡ timelineOfReply board number ⌝ }
 {
-    let e = resource_numbers::entry_for(board, number);
+    let e = board_numbers::entry_for(board, number);
     if e.refusal != 0 {
         let none = board::blank_timeline();
         return Looked {
@@ -37,7 +37,7 @@ pub fn put_timeline(board: Board, number: u8, timeline: ResourceTimeline) -> Ent
             board: board,
         };
     }
-    let e = resource_numbers::entry_for(board, number);
+    let e = board_numbers::entry_for(board, number);
     if e.refusal != 0 {
         return Entered {
             refusal: e.refusal,

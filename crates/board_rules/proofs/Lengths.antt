@@ -8,7 +8,7 @@ use native.Mathlib.Omega.{arith}
 use lib.ListN.{getD}
 use lib.Dec.{eqb}
 use borrow.Author.Tests.{eqb-true}
-use Rattle.calendar.specs.Basics.{and-split, lt-or-ge}
+use Rattle.cells.specs.Laws.Basics.{and-split, lt-or-ge}
 use Rattle.timeline.proofs.Rules as timeline
 use Rattle.board.specs.declared.Board.{Board}
 use Rattle.board.specs.declared.Resource.{Resource}

@@ -36,7 +36,7 @@ pub fn places_of(b: Board) -> Places
     let mut i: usize = 0;
     while i < 16 {
         let r = b.resources[i];
-        if !resource_rules::cell_right(r, i < len) {
+        if !board_cell_rules::cell_right(r, i < len) {
             return wrong;
         }
         if i < len {

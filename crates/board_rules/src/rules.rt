@@ -4,7 +4,7 @@ ghost use mathlib.Core.Path.{_≡_};
 ghost use Prim.Native.Nat.{_/_, _%_};
 ghost use lib.ListN.{getD};
 ghost use lib.Dec.{ltb};
-ghost use Rattle.calendar.specs.Every.{everyFrom};
+ghost use Rattle.cells.specs.Every.{everyFrom};
 ghost use Rattle.board.specs.Valid.{transportCell};
 
 fn transport_cell(ms: u64, from: usize, to: usize) -> bool

@@ -12,7 +12,7 @@ use Rattle.calendar.specs.declared.TimeWindows.{TimeWindows}
 use Rattle.calendar.specs.declared.Calendar.{Calendar}
 use Rattle.calendar.specs.Valid.{spansRight, valid}
 use Rattle.calendar.specs.Add.{addRefusal, withSpan, added}
-use Rattle.calendar.specs.Basics.{and-join, or-right, same-or-not, unrefused}
+use Rattle.cells.specs.Laws.Basics.{and-join, or-right, same-or-not, unrefused}
 use Rattle.calendar.proofs.Rules.{right, righted}
 
 module _ (c : Calendar) (n s e : ℕ) where

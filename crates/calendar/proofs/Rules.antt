@@ -10,8 +10,9 @@ use borrow.Author.Tests.{leb-true, ltb-true, ltb-false, eqb-true, le-leb, lt-ltb
 use Rattle.calendar.specs.declared.TimeWindows.{TimeWindows}
 use Rattle.calendar.specs.declared.Calendar.{Calendar}
 use Rattle.calendar.specs.Valid.{cellRight, cellAt, spansRight, valid}
-use Rattle.calendar.specs.Every.{everyFrom, from-at, from-all}
-use Rattle.calendar.specs.Basics.{and-split, and-join, lt-or-ge}
+use Rattle.cells.specs.Every.{everyFrom}
+use Rattle.cells.specs.Laws.Every.{from-at, from-all}
+use Rattle.cells.specs.Laws.Basics.{and-split, and-join, lt-or-ge}
 
 -- cell i of a list of n spans
 pub record Cell (i n s e : ℕ) : Type 0 where

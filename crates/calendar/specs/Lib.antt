@@ -5,9 +5,6 @@ pub mod Limits
 pub mod Refusals
 pub mod Sets
 pub mod Search
-pub mod Basics
-pub mod Every
-pub mod Cells
 pub mod Spans
 pub mod Valid
 pub mod Fits

@@ -8,7 +8,7 @@ use Prim.Native.Nat.{ℕ, _≤_, _<_}
 use native.Mathlib.Omega.{arith}
 use borrow.Author.Tests.{not-true}
 use Rattle.calendar.specs.declared.Calendar.{Calendar}
-use Rattle.calendar.specs.Basics.{and-split, lt-or-ge, same-or-not, not-both}
+use Rattle.cells.specs.Laws.Basics.{and-split, lt-or-ge, same-or-not, not-both}
 use Rattle.calendar.specs.Search.{nothing, at}
 use Rattle.calendar.specs.Spans.{Span, spanAt, spans, any, holds, meets, contains}
 use Rattle.calendar.specs.Fits.{openFor, fits}

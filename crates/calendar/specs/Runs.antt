@@ -5,7 +5,7 @@ use Rattle.calendar.specs.declared.Calendar.{Calendar}
 use Rattle.calendar.specs.Search.{nothing, at, leastFrom, greatestOf}
 use Rattle.calendar.specs.Spans.{spansFrom, any, holds, meets, contains}
 use Rattle.calendar.specs.Fits.{openFor, fits}
-use Rattle.calendar.specs.Every.{every}
+use Rattle.cells.specs.Every.{every}
 use Rattle.calendar.specs.Work.{working, joint, endFrom, workEnd, latest, lastChange, jointEnd}
 
 -- windows 0-10, 10-20; window 0-100 with block 40-60

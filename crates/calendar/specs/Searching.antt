@@ -7,7 +7,7 @@ use Prim.Native.Nat.{ℕ, zero, suc, _+_, _-_, _≤_, _<_, max}
 use native.Mathlib.Nat.{eq-or-lt-of-le}
 use native.Mathlib.Omega.{arith}
 use lib.ListN.{getD, length}
-use Rattle.calendar.specs.Basics.{no-way, lt-or-ge, not-both}
+use Rattle.cells.specs.Laws.Basics.{no-way, lt-or-ge, not-both}
 use Rattle.calendar.specs.Search.{Found, nothing, at, leastFrom, greatestOf}
 
 -- nothing is no instant

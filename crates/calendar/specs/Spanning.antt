@@ -1,6 +1,6 @@
 -- One of several spans passes a test: how the loops go on, and the tests as facts; a span that is taken.
 use mathlib.Core.Path.{_≡_, refl, sym, ap, _∙_}
-use mathlib.Core.Bool.{Bool, true, false, not, _&&_, _||_}
+use mathlib.Core.Bool.{Bool, true, false, not, _&&_, _||_, and-true, and-false, or-true, or-false, or-assoc}
 use mathlib.Core.List.{[], _∷_, _++_}
 use mathlib.Core.Logic.{⊎-elim}
 use Prim.Native.Nat.{ℕ, zero, suc, _+_, _-_, _≤_, _<_}
@@ -14,7 +14,7 @@ use Rattle.calendar.specs.declared.TimeWindows.{TimeWindows}
 use Rattle.calendar.specs.Spans.{Span, spanAt, spansFrom, spans, any, holds, meets, contains}
 use Rattle.calendar.specs.Fits.{openFor}
 use Rattle.calendar.specs.Add.{withSpan}
-use Rattle.calendar.specs.Basics.{and-split, and-true, and-false, or-true, or-false, or-assoc, not-both, no-way, lt-or-ge}
+use Rattle.cells.specs.Laws.Basics.{and-split, not-both, no-way, lt-or-ge}
 
 -- the cells from cell i on as a list
 pub spans-long : (l : TimeWindows) (i n : ℕ) → length (spansFrom l i n) ≡ n

@@ -5,7 +5,7 @@ use mathlib.Core.Bool.{Bool, _&&_, cond}
 use lib.ListN.{getD}
 use lib.Dec.{leb, ltb, eqb}
 use Rattle.calendar.specs.Limits.{lastInstant, mostSpans}
-use Rattle.calendar.specs.Every.{everyFrom}
+use Rattle.cells.specs.Every.{everyFrom}
 use Rattle.calendar.specs.declared.TimeWindows.{TimeWindows}
 use Rattle.calendar.specs.declared.Calendar.{Calendar}
 

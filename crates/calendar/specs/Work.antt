@@ -4,7 +4,7 @@ use mathlib.Core.Bool.{Bool, true, false, not, _&&_}
 use mathlib.Core.List.{List, map}
 use Rattle.calendar.specs.declared.Calendar.{Calendar}
 use Rattle.calendar.specs.Search.{Found, nothing, at, greatestOf}
-use Rattle.calendar.specs.Every.{every}
+use Rattle.cells.specs.Every.{every}
 use Rattle.calendar.specs.Spans.{Span, spans, any, contains}
 use Rattle.calendar.specs.Fits.{openFor}
 

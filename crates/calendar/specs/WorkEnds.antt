@@ -8,11 +8,11 @@ use Prim.Native.Nat.{ℕ, zero, suc, _+_, _-_, _≤_, _<_}
 use native.Mathlib.Nat.{eq-or-lt-of-le}
 use native.Mathlib.Omega.{arith}
 use Rattle.calendar.specs.declared.Calendar.{Calendar}
-use Rattle.calendar.specs.Basics.{lt-or-ge, not-both}
+use Rattle.cells.specs.Laws.Basics.{lt-or-ge, not-both}
 use Rattle.calendar.specs.Search.{Found, nothing, at, greatestOf}
 use Rattle.calendar.specs.Spans.{Span, spans, any, contains}
 use Rattle.calendar.specs.Fits.{openFor}
-use Rattle.calendar.specs.Every.{every}
+use Rattle.cells.specs.Every.{every}
 use Rattle.calendar.specs.Work.{working, joint, endFrom, workEnd, latest, lastChange}
 use Rattle.calendar.specs.Spanning.{contains-no}
 use Rattle.calendar.specs.Searching.{not-at}

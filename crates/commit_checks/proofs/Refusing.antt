@@ -8,14 +8,13 @@ use native.Mathlib.Omega.{arith}
 use lib.ListN.{length}
 use lib.Dec.{ltb, eqb}
 use borrow.Author.Tests.{lt-leb, le-ltb, lt-ltb, le-leb, ltb-false, not-false, not-true, ne-eqb}
-use Rattle.calendar.specs.Basics.{unrefused, same-or-not}
-use Rattle.calendar.specs.Every.{every}
+use Rattle.cells.specs.Laws.Basics.{unrefused, same-or-not}
+use Rattle.cells.specs.Every.{every, Each}
 use Rattle.board.specs.declared.Board.{Board}
 use Rattle.board.specs.Valid as board
 use Rattle.board.proofs.Replying.{refused-by, taken-by}
 use Rattle.scheduler.specs.Committing.{Line, linesOf, linesRefusal, commitRefusal, bookAll, commitReply}
 use Rattle.scheduler.specs.Committed.{Bookable, Right, Room, allOn, allMetered, allRoomy, passed, room-passed, all-fine}
-use Rattle.scheduler.specs.Lists.{Each}
 
 -- a check that the code made, and what it is a check of
 pub check-passed : (r p q : Bool) → r ≡ p → p ≡ q → not r ≡ false → q ≡ true

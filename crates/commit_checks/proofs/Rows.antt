@@ -1,6 +1,6 @@
 -- The checks of the rows of a slate, and what they say of its lines.
 use mathlib.Core.Path.{_≡_, refl, sym, ap, _∙_, fun-ext}
-use mathlib.Core.Bool.{Bool, true, false, _&&_, cond}
+use mathlib.Core.Bool.{Bool, true, false, _&&_, cond, and-false}
 use mathlib.Core.List.{List, [], _∷_, _++_, map, map-append}
 use mathlib.Core.Logic.{⊎-elim}
 use Prim.Native.Nat.{ℕ, zero, suc, _+_, _≤_, _<_}
@@ -9,18 +9,18 @@ use lib.ListN.{length, getD, set, take, replicate, getD-replicate}
 use lib.Dec.{leb, ltb, eqb}
 use lib.Seq.{getD-set-same, getD-set-other}
 use borrow.Author.Tests.{ltb-true, lt-ltb, le-ltb, lt-leb, le-leb, eq-eqb, ne-eqb}
-use Rattle.calendar.specs.Basics.{and-split, and-false, same-or-not}
-use Rattle.calendar.specs.Every.{every, every-map, every-where}
+use Rattle.cells.specs.Laws.Basics.{and-split, same-or-not, both-ways, take-next}
+use Rattle.cells.specs.Every.{every}
+use Rattle.cells.specs.Laws.Every.{every-map, every-where}
 use Rattle.board.specs.declared.Board.{Board}
-use Rattle.board.specs.Resources.{isAt, onBoard}
+use Rattle.calendar.specs.Search.{isAt}
+use Rattle.board.specs.Resources.{onBoard}
 use Rattle.board.specs.Valid.{valid}
 use Rattle.board.proofs.Facts.{rules}
 use Rattle.scheduler.specs.Alone.{diaryOf}
-use Rattle.scheduler.specs.Arrays.{take-next}
 use Rattle.scheduler.specs.Committing.{Line, lineOf, linesOf, entriesOn}
 use Rattle.scheduler.specs.Ruled.{diary-at}
-use Rattle.scheduler.specs.Tests.{both-ways}
-use Rattle.seats.proofs.Knowing.{place-on, number-place}
+use Rattle.board.proofs.Knowing.{place-of, number-place}
 use Rattle.board.specs.Places.{Known, Lengths}
 use Rattle.commit_checks.specs.Lines.{numbered, metered, roomy, Counted}
 
@@ -123,7 +123,7 @@ module _ (b : Board) (v : valid b ≡ true) (places : List ℕ) (known : Known b
   unfolding lineOf isAt
   numbered-is row =
       both-ways (numbered places row) (onBoard b (getD row 0 0))
-      (λ e. let w = number-is places row e in ap isAt (place-on b v places known (getD row 0 0) (w .0) (w .1)))
+      (λ e. let w = number-is places row e in ap isAt (place-of b v places known (getD row 0 0) (w .0) (w .1)))
       (λ o. let w = number-place b v places known (getD row 0 0) o in number-on places row (w .0) (omega (arith, w .2, rules b v .few)))
 
   pub numbers-lines : (n : ℕ) (slate : List (List ℕ)) → every (numbered places) (take n slate) ≡ every (λ l. onBoard b (l .number)) (linesOf n slate)

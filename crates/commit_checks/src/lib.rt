@@ -5,7 +5,7 @@ ghost use mathlib.Core.Bool.{true};
 ghost use mathlib.Core.List.{[]};
 ghost use Prim.Native.Nat.{ℕ, _≤_, _<_};
 ghost use lib.ListN.{length, getD, take};
-ghost use Rattle.calendar.specs.Every.{every};
+ghost use Rattle.cells.specs.Every.{every};
 ghost use Rattle.board.specs.declared.Board as declared;
 ghost use Rattle.board.specs.Valid.{valid};
 ghost use Rattle.scheduler.specs.Committing.{linesOf, linesRefusal};

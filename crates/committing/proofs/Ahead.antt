@@ -17,7 +17,7 @@ use Rattle.board.specs.declared.LastCategory.the-variants.{Category}
 use Rattle.board.specs.declared.Resource.{Resource}
 use Rattle.board.specs.declared.Board.{Board}
 use Rattle.board.specs.Resources.{resourceAt, lookup}
-use Rattle.board.specs.Places.{placeOf}
+use Rattle.board.specs.Places.{placeOf, Known}
 use Rattle.board.specs.Valid as board
 use Rattle.board.specs.Enter.{withResource, changed}
 use Rattle.board.proofs.Facts.{rules}
@@ -25,10 +25,10 @@ use Rattle.board.proofs.Meaning.{resource-of}
 use Rattle.scheduler.specs.Alone.{diaryOf}
 use Rattle.scheduler.specs.Committing.{Line, lineOf, linesOf, entriesOn, lastAfter, booked, bookAll}
 use Rattle.scheduler.specs.Committed.{Bookable, Right, Room, step-long, lookup-after, after-keeps, right-after, room-after}
-use Rattle.scheduler.specs.Lists.{Each, each-weaken, each-first, each-rest}
+use Rattle.cells.specs.Every.{Each}
+use Rattle.cells.specs.Laws.Each.{each-weaken, each-first, each-rest}
 use Rattle.scheduler.specs.Ruled.{diary-at}
-use Rattle.board.specs.Places.{Known}
-use Rattle.seats.proofs.Knowing.{number-place}
+use Rattle.board.proofs.Knowing.{number-place}
 
 -- a booking that is not refused
 pub book-taken : (t : ResourceTimeline) (start end category u : ℕ) → timeline.valid t ≡ true → t .len < 64 → Bookable start end category → 1 ≤ u → u ≤ 10000

@@ -1,18 +1,18 @@
 // Places and commits orders on a board, by a stream of records on standard input, and writes the answers (docs/RECORDS.md, kinds 1 to 4
-// and 16 to 26). It only reads and writes; what a record does is in `offer_records`, what it prints in `offer_lines`.
-use desk::Desk;
-use offer_records::Answer;
-use offer_records::Turn;
-use streams::Input;
+// and 16 to 26). It only reads and writes; what a record does is in `record_offer`, what it prints in `record_offer_text`.
+use record_desk::Desk;
+use record_offer::Answer;
+use record_offer::Turn;
+use record_streams::Input;
 ghost use Prim.Native.Nat.{_+_, _≤_};
-ghost use Rattle.offer_records.specs.Offers.{shown};
+ghost use Rattle.record_offer.specs.Offers.{shown};
 
 // The next record.
 fn next(desk: Desk, slate: &mut [[u64; 4]; 24], buf: &[u8; 65536], at: usize, len: usize) -> Turn
     requires { ⌜ (at ≤ len) × (len ≤ 65536) ⌝ }
     ensures { λ r. ⌜ (r .at ≤ len) × (shown (r .answer) ≤ 24) ⌝ }
 {
-    offer_records::record(desk, slate, buf, at, len)
+    record_offer::record(desk, slate, buf, at, len)
 }
 
 // Puts what an answer prints behind what waits.
@@ -20,7 +20,7 @@ fn print(answer: Answer, slate: &[[u64; 4]; 24], out: &mut [u8; 65536], used: us
     requires { ⌜ (shown answer ≤ 24) × (used + 2251 ≤ 65536) ⌝ }
     ensures { λ r. ⌜ r ≤ 65536 ⌝ }
 {
-    offer_lines::text(answer, slate, out, used)
+    record_offer_text::text(answer, slate, out, used)
 }
 
 // Nothing says that the input ends, so the turns count down from a number that no run uses up. A record has at most 267 bytes, an
@@ -40,15 +40,15 @@ fn main() {
     let mut more = true;
     while more && turns > 0 {
         turns -= 1;
-        s = streams::supply(s, &mut buf, 267);
+        s = record_streams::supply(s, &mut buf, 267);
         let r = next(desk, &mut slate, &buf, s.at, s.len);
         let d = r.desk;
         let answer = r.answer;
         desk = d;
         s.at = r.at;
         more = r.more;
-        used = streams::relieve(&out, used, 2251);
+        used = record_streams::relieve(&out, used, 2251);
         used = print(answer, &slate, &mut out, used);
     }
-    streams::relieve(&out, used, 65536);
+    record_streams::relieve(&out, used, 65536);
 }

@@ -18,14 +18,15 @@ use Rattle.scheduler.specs.declared.Selection.{Selection}
 use Rattle.scheduler.specs.Choosing.{Held, chosen, choosing}
 use Rattle.scheduler.specs.Fitting.{heldEntry, heldEntries, durationTogether, companionEntry, companionEntries, joinEach, numbersOf, allCompanions, entriesOf}
 use Rattle.scheduler.specs.Selections.{noSelection, heldOf, heldTo, OnPlaces}
-use Rattle.scheduler.specs.Lists.{Each, each-all, each-append, each-in-map}
-use Rattle.scheduler.specs.Arrays.{each-at, each-cells}
+use Rattle.cells.specs.Every.{Each}
+use Rattle.cells.specs.Laws.Each.{each-all, each-append, each-in-map}
+use Rattle.cells.specs.Laws.Arrays.{each-at, each-cells}
 use Rattle.scheduler.specs.Chosen.{Chooses}
 use Rattle.scheduler.specs.Plain.{enough, heldAt}
 use Rattle.scheduler.specs.Meaning.{choosing-means, some-of-each}
 use Rattle.scheduler.specs.Reported.{held-at-whole, entries-on}
-use Rattle.entries.specs.Parts.{noEntry}
-use Rattle.fitting.specs.Closing.{EntriesOn}
+use Rattle.place_entries.specs.Cells.{noEntry}
+use Rattle.place_fit.specs.Closing.{EntriesOn}
 
 module _ (a : Activity) where
   entries-some : (hs : List Held) → Each (λ h. 1 ≤ h .usage) hs → Each (λ e. 1 ≤ e .units) (entriesOf a hs)

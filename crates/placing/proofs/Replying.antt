@@ -19,9 +19,9 @@ use Rattle.scheduler.specs.Fitting.{entriesOf, spanTogether}
 use Rattle.scheduler.specs.Placing.{none, refused, fitted, fitChosen, timeOnly, byRequirements, placing, placeRefusal, placeReply}
 use Rattle.calendar.specs.Refusals.{refusedOr, refused-by}
 use Rattle.scheduler.specs.Selections.{heldTo}
-use Rattle.rounds.specs.declared.Choice as code
-use Rattle.rounds.specs.Rounds.{choiceOf}
-use Rattle.fitting.specs.Closing.{EntriesOn}
+use Rattle.place_rounds.specs.declared.Choice as code
+use Rattle.place_rounds.specs.Rounds.{choiceOf}
+use Rattle.place_fit.specs.Closing.{EntriesOn}
 
 -- the order from its release on is not refused either
 pub ready-lawful : (a : Activity) (ready : ℕ) → activityRefusal a ready ≡ 0 → activityRefusal a (readyOf (a .release) ready) ≡ 0

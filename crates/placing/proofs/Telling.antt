@@ -6,7 +6,7 @@ use Prim.Native.Nat.{ℕ, _≤_}
 use borrow.Author.Tests.{not-false, ltb-false}
 use lib.ListN.{length, drop}
 use lib.Dec.{ltb}
-use Rattle.calendar.specs.Basics.{or-left, or-right, unrefused}
+use Rattle.cells.specs.Laws.Basics.{or-left, or-right, unrefused}
 use Rattle.calendar.specs.Valid as calendar
 use Rattle.calendar.specs.Search.{Found, nothing, at}
 use Rattle.timeline.specs.Ask as asking
@@ -19,7 +19,7 @@ use Rattle.scheduler.specs.Alone.{Share}
 use Rattle.scheduler.specs.Fitting.{sharesOf, fitting, endOf}
 use Rattle.scheduler.specs.Placing as placement
 use Rattle.scheduler.specs.Placing.{Reply, placed, chosenNone, started, fitted, placeRefusal, rowOf, slateAfter}
-use Rattle.fitting.specs.Closing.{withEnd, closing}
+use Rattle.place_fit.specs.Closing.{withEnd, closing}
 use Rattle.placing.specs.Told.{told}
 use Rattle.placing.specs.declared.Placement.the-variants.{Placed, ChosenNone}
 

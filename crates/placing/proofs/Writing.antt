@@ -8,7 +8,7 @@ use lib.ListN.{length, getD, set, take, drop, length-map, length-append, length-
 use lib.Seq.{set-at, length-take-le, take-suc, drop-cons}
 use Rattle.scheduler.specs.declared.Entry.{Entry}
 use Rattle.scheduler.specs.Placing.{rowOf}
-use Rattle.entries.specs.Parts.{noEntry}
+use Rattle.place_entries.specs.Cells.{noEntry}
 
 module _ (es : List Entry) (slate : List (List ℕ)) where
   abbrev pub written : ℕ → List (List ℕ)

@@ -6,13 +6,14 @@ use mathlib.Core.List.{List, map}
 use lib.ListN.{length, getD, take, drop, length-map}
 use lib.Seq.{take-at}
 use lib.Dec.{ltb}
-use Rattle.calendar.specs.Basics.{not-both}
+use Rattle.cells.specs.Laws.Basics.{not-both}
 use Rattle.calendar.specs.Search.{at}
 use Rattle.activity.specs.declared.Activity.{Activity}
 use Rattle.board.specs.declared.Board.{Board}
 use Rattle.scheduler.specs.declared.Entry.{Entry}
 use Rattle.scheduler.specs.Placing.{Reply, placed, chosenNone, none, refused, placeReply, rowOf, slateAfter, choosingInstant, refusalOf}
-use Rattle.scheduler.specs.Lists.{Each, each-of-map}
+use Rattle.cells.specs.Every.{Each}
+use Rattle.cells.specs.Laws.Each.{each-of-map}
 use Rattle.scheduler.specs.Alike.{Alike, NoExtra}
 use Rattle.scheduler.specs.Demand3.{Demand3, demand-3}
 use Rattle.placing.specs.declared.Placement.{Placement}

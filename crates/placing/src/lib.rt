@@ -1,8 +1,8 @@
 // Placing an order on a board (`place_activity` in scheduler/simple.rs; 01, 'Placing' and its replies).
 use activity::Activity;
 use board::Board;
-use entries::Entries;
-use fitting::Fit;
+use place_entries::Entries;
+use place_fit::Fit;
 ghost use mathlib.Core.Path.{_≡_};
 ghost use mathlib.Core.List.{_++_, map};
 ghost use Prim.Native.Nat.{_≤_};
@@ -49,7 +49,7 @@ fn refusal_of(right: bool, a: Activity, ready: u64, slate: usize) -> u8
     if slate < 24 {
         return 7;
     }
-    order_checks::refusal(a, ready)
+    activity_checks::refusal(a, ready)
 }
 
 // Places the order from ready on, and writes the entries of a placement at the front of the slate; or refuses: 15 a board or an own
@@ -67,23 +67,23 @@ pub fn place_activity(b: Board, a: Activity, ready: u64, slate: &mut [[u64; 4]])
     let release = a.release;
     let mut t = activity::core::ready_of(release, ready);
     let mut span = a.duration.setup + a.duration.process + a.duration.teardown;
-    let mut e = entries::no_entries();
+    let mut e = place_entries::no_entries();
     if a.len != 0 {
-        let c = choosing::choose(b, a, t, places);
+        let c = place_choice::choose(b, a, t, places);
         if !c.chosen {
             return Placement::None;
         }
         let held = c.held;
         let plans = c.plans;
-        let x = entries::entries_of(plans, a, held, c.count);
+        let x = place_entries::entries_of(plans, a, held, c.count);
         t = c.instant;
         span = x.span;
         e = x.entries;
     }
     let f = if a.resumable {
-        resuming::fit_resumable(b, e, places, a.calendar, span, t)
+        place_resume::fit_resumable(b, e, places, a.calendar, span, t)
     } else {
-        fitting::fit_unbroken(b, e, places, a.calendar, span, t)
+        place_fit::fit_unbroken(b, e, places, a.calendar, span, t)
     };
     match f {
         Fit::At(s, end) => {

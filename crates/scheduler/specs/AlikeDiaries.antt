@@ -4,10 +4,10 @@ use mathlib.Core.Bool.{Bool, true, false}
 use mathlib.Core.List.{List, [], _∷_}
 use Prim.Native.Nat.{ℕ, _+_}
 use native.Mathlib.Omega.{arith}
-use Rattle.calendar.specs.Every.{every}
+use Rattle.cells.specs.Every.{every, Pairs, pairs-end, pairs-on}
 use Rattle.calendar.specs.declared.Calendar.{Calendar}
-use Rattle.calendar.specs.Basics.{and-split, and-join, not-both}
-use Rattle.calendar.specs.Search.{Found, nothing, at}
+use Rattle.cells.specs.Laws.Basics.{and-split, and-join, not-both}
+use Rattle.calendar.specs.Search.{Found, nothing, at, isAt}
 use Rattle.calendar.specs.Fits.{fits}
 use Rattle.calendar.specs.Work.{jointEnd}
 use Rattle.timeline.specs.declared.ResourceTimeline.{ResourceTimeline}
@@ -15,13 +15,12 @@ use Rattle.timeline.specs.Bookings.{bookings}
 use Rattle.timeline.specs.Earliest.{freeOn, fitsAt, freeTo, startsAt}
 use Rattle.timeline.proofs.Meaning.{free-more}
 use Rattle.board.specs.declared.Board.{Board}
-use Rattle.board.specs.Resources.{noResource, lookupTo, lookup, isAt, onBoard}
+use Rattle.board.specs.Resources.{noResource, lookupTo, lookup, onBoard}
 use Rattle.scheduler.specs.Alone.{Share, canStart, allStart, resourceIn, diaryOf}
 use Rattle.scheduler.specs.Fitting.{allFree}
 use Rattle.scheduler.specs.Alike.{AlikeDiary, Alike, NoExtra}
 use Rattle.board.proofs.Meaning.{lookup-means}
 use Rattle.board.proofs.Keeping as keeping
-use Rattle.scheduler.specs.Lists.{Pairs, pairs-end, pairs-on}
 
 -- the second of two shares wants the same of a diary alike but for extra bookings
 pub record AlikeShare (x y : Share) : Type 0 where

@@ -9,7 +9,7 @@ use lib.ListN.{length, take}
 use lib.Dec.{leb, eqb}
 use borrow.Author.Tests.{leb-true, le-leb, eqb-true, eq-eqb}
 use Rattle.calendar.specs.declared.Calendar.{Calendar}
-use Rattle.calendar.specs.Basics.{and-split, and-join, not-both}
+use Rattle.cells.specs.Laws.Basics.{and-split, and-join, not-both, or-in-left, or-in-right, or-cases, both-ways}
 use Rattle.calendar.specs.Search.{Found, nothing, at, leastFrom, greatestOf}
 use Rattle.calendar.specs.Fits.{fits}
 use Rattle.calendar.specs.Work.{lastChange, jointEnd}
@@ -30,14 +30,14 @@ use Rattle.scheduler.specs.declared.Entry.{Entry}
 use Rattle.scheduler.specs.Fitting.{numberOf, numbersOf, durationTogether, heldEntry, heldEntries, among, joinEach, allCompanions, companionEntry, companionEntries, entriesOf, spanTogether, shareOf, sharesOf, fitsAll, allFree, freeToEnd, calendarOf, calendarsOf, startsAll, suits, lastAll, fitting, endOf}
 use Rattle.scheduler.specs.Placing.{ended, started, fitted}
 use Rattle.scheduler.specs.Plain.{startsThere, candidateAt, startable, enough, heldAt}
-use Rattle.scheduler.specs.Lists.{Each, each-end, each-on, each-weaken, each-in-map, each-of-map, each-left, each-right, Pairs, pairs-end, pairs-on, pairs-map, pairs-map-each, pairs-append}
+use Rattle.cells.specs.Every.{Each, each-end, each-on, Pairs, pairs-end, pairs-on}
+use Rattle.cells.specs.Laws.Each.{each-weaken, each-in-map, each-of-map, each-left, each-right, pairs-map, pairs-map-each, pairs-append}
 use Rattle.scheduler.specs.Ranking.{length-sort}
 use Rattle.scheduler.specs.Events.{among-append}
 use Rattle.scheduler.specs.Alike.{Alike, NoExtra}
 use Rattle.scheduler.specs.AlikeDiaries.{AlikeShare, all-less, all-free-less, diaries-alike, diaries-same}
 use Rattle.scheduler.specs.AlikeResources.{Twin, twins, Clean, companions-twin, duration-twin, setup-twin, starts-less, starts-same}
 use Rattle.scheduler.specs.Dropping.{Sub, sub-end, sub-keep, sub-drop, sub-sort, sub-take}
-use Rattle.scheduler.specs.Tests.{or-in-left, or-in-right, or-cases, both-ways}
 
 module _ (b c : Board) (k : Alike b c) (a : Activity) (ready : ℕ) where
   pub record TwinCandidate (x y : Candidate) : Type 0 where

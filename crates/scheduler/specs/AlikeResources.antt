@@ -10,7 +10,7 @@ use Rattle.timeline.specs.declared.ResourceTimeline.{ResourceTimeline}
 use Rattle.activity.specs.declared.ResourceRequirement.{ResourceRequirement}
 use Rattle.activity.specs.declared.Activity.{Activity}
 use Rattle.activity.specs.Serving.{serves}
-use Rattle.calendar.specs.Every.{every}
+use Rattle.cells.specs.Every.{every, Each, Pairs, pairs-on}
 use Rattle.board.specs.declared.Resource.{Resource}
 use Rattle.board.specs.declared.Board.{Board}
 use Rattle.board.specs.Resources.{noResource, resourcesOf, numberAt, onBoard}
@@ -18,8 +18,8 @@ use Rattle.board.specs.Setups.{setupOn}
 use Rattle.board.specs.Transport.{greatestTransport}
 use Rattle.scheduler.specs.Alone.{allStart, diaryOf, companionsOf, oneUnit, withCompanions, durationAlone, spanAlone, arrival}
 use Rattle.scheduler.specs.Plain.{startsThere}
-use Rattle.scheduler.specs.Lists.{Each, Pairs, pairs-on, pairs-map, pairs-map-each}
-use Rattle.scheduler.specs.Arrays.{pairs-cells}
+use Rattle.cells.specs.Laws.Each.{pairs-map, pairs-map-each}
+use Rattle.cells.specs.Laws.Arrays.{pairs-cells}
 use Rattle.scheduler.specs.Alike.{AlikeDiary, AlikeResource, Alike, NoExtra}
 use Rattle.scheduler.specs.Ruled.{diary-at, all-there}
 use Rattle.board.proofs.Meaning.{lookup-is}

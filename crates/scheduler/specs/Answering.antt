@@ -8,20 +8,19 @@ use native.Mathlib.Omega.{arith}
 use lib.ListN.{length}
 use lib.Dec.{leb}
 use borrow.Author.Tests.{leb-true, leb-false, le-leb, lt-leb}
-use Rattle.calendar.specs.Basics.{and-split, and-join, no-way, not-both, lt-or-ge}
+use Rattle.cells.specs.Laws.Basics.{and-split, and-join, no-way, not-both, lt-or-ge}
 use Rattle.calendar.specs.Search.{Found, nothing, at}
 use Rattle.calendar.specs.Searching.{Earliest, Answers}
 use Rattle.activity.specs.declared.ResourceRequirement.{ResourceRequirement}
 use Rattle.activity.specs.declared.Activity.{Activity}
 use Rattle.activity.specs.Serving.{serves}
-use Rattle.calendar.specs.Every.{every}
+use Rattle.cells.specs.Every.{every, Each, each-end, each-on}
 use Rattle.board.specs.declared.Resource.{Resource}
 use Rattle.board.specs.declared.Board.{Board}
 use Rattle.board.specs.Resources.{onBoard}
 use Rattle.scheduler.specs.Alone.{allStart, earliestOf, companionsOf, withCompanions, durationAlone, spanAlone, arrival, startWith, startAlone}
 use Rattle.scheduler.specs.Choosing.{answer, candidates}
 use Rattle.scheduler.specs.Plain.{startsThere, candidateAt, startable}
-use Rattle.scheduler.specs.Lists.{Each, each-end, each-on}
 use Rattle.scheduler.specs.Together.{Sound, together-answers}
 use Rattle.scheduler.specs.Ranking.{low}
 

@@ -11,15 +11,16 @@ use lib.Seq.{take-all}
 use lib.Dec.{eqb}
 use borrow.Author.Tests.{eqb-true, eqb-false}
 use Rattle.calendar.specs.Limits.{lastAsked}
-use Rattle.calendar.specs.Every.{every, every-in, every-next}
-use Rattle.calendar.specs.Basics.{no-way, not-both}
+use Rattle.cells.specs.Every.{every}
+use Rattle.cells.specs.Laws.Every.{every-in, every-next}
+use Rattle.cells.specs.Laws.Basics.{no-way, not-both}
 use Rattle.calendar.specs.Search.{Found, nothing, at}
 use Rattle.timeline.specs.Valid.{valid}
 use Rattle.timeline.proofs.Searching.{Sought, sought-start}
 use Rattle.calendar.specs.Searching.{Earliest, Answers}
 use Rattle.scheduler.specs.Alone.{Share, canStart, allStart, earliestOf}
 use Rattle.scheduler.specs.Shares.{startOn, noShare}
-use Rattle.scheduler.specs.Arrays.{each-at}
+use Rattle.cells.specs.Laws.Arrays.{each-at}
 use Rattle.scheduler.specs.Fitting.{among}
 use Rattle.scheduler.specs.Together.{Sound, together-is}
 use Rattle.scheduler.specs.Events.{events, eventsOf, event-among, above, above-le, above-falls}

@@ -9,14 +9,14 @@ use native.Mathlib.Omega.{arith}
 use lib.ListN.{length}
 use lib.Dec.{leb, eqb}
 use borrow.Author.Tests.{eqb-true, eqb-false, leb-true, le-leb}
-use Rattle.calendar.specs.Basics.{and-split, and-join, no-way, lt-or-ge}
+use Rattle.cells.specs.Laws.Basics.{and-split, and-join, no-way, lt-or-ge, or-left, or-right}
 use Rattle.calendar.specs.Search.{Found, nothing, at, greatestOf}
 use Rattle.timeline.proofs.Searching.{Sought, sought-start}
 use Rattle.calendar.specs.Searching.{Earliest, Answers}
 use Rattle.activity.specs.declared.ResourceRequirement.{ResourceRequirement}
 use Rattle.activity.specs.declared.Activity.{Activity}
 use Rattle.activity.specs.Serving.{serves}
-use Rattle.calendar.specs.Every.{every}
+use Rattle.cells.specs.Every.{every, Each, each-end, each-on}
 use Rattle.activity.specs.Check.{requirementsOf}
 use Rattle.board.specs.declared.Resource.{Resource}
 use Rattle.board.specs.declared.Board.{Board}
@@ -25,13 +25,12 @@ use Rattle.scheduler.specs.Alone.{allStart, companionsOf, withCompanions
 use Rattle.scheduler.specs.Choosing.{sortInto, answer, candidates, Held, holdFirst, Round, tooFew, holds, round, greatestStart, Choice, noChoice, chosen, settle, rounds}
 use Rattle.scheduler.specs.Fitting.{among}
 use Rattle.scheduler.specs.Plain.{startsThere, enough, heldAt}
-use Rattle.scheduler.specs.Lists.{Each, each-end, each-on, each-append}
+use Rattle.cells.specs.Laws.Each.{each-append}
 use Rattle.scheduler.specs.Together.{all-back}
 use Rattle.scheduler.specs.Ranking.{each-sort}
 use Rattle.scheduler.specs.Answering.{Kept, served, alone-answers, told}
 use Rattle.scheduler.specs.Rounds.{heldIn, not-few, hold-parts, each-hold, greatest-le, starts-le, greatest-ge, round-at, round-upto, round-from, round-stays, round-some}
 use Rattle.scheduler.specs.Events.{eventsOf, calm-else, least-listed, above, above-falls}
-use Rattle.scheduler.specs.Tests.{or-left, or-right}
 
 -- the greatest start is one of the starts
 greatest-is : (P : ℕ → Type 0) (hs : List Held) → Each (λ h. P (h .start)) hs → 1 ≤ length hs → P (greatestStart hs)

@@ -8,7 +8,7 @@ use Rattle.calendar.specs.declared.Calendar.{Calendar}
 use Rattle.calendar.specs.Valid as calendar
 use Rattle.scheduler.specs.Alone.{Share}
 use Rattle.scheduler.specs.Fitting.{suits, lastAll, fitting}
-use Rattle.scheduler.specs.Lists.{each-on}
+use Rattle.cells.specs.Every.{each-on}
 use Rattle.scheduler.specs.Together.{Sound, last-calm}
 use Rattle.calendar.specs.Searching.{Answers, least-answers}
 use Rattle.scheduler.specs.Owning.{ownShare, own-valid, own-last, suits-on, suits-on-back}

@@ -10,19 +10,19 @@ use lib.Dec.{leb, ltb, eqb}
 use lib.Seq.{getD-set-same, getD-set-other}
 use borrow.Author.Tests.{leb-true, ltb-false, leb-false, le-leb, eqb-true, eqb-false, eq-eqb, not-true, not-false}
 use Rattle.calendar.specs.Limits.{lastInstant, mostUnits}
-use Rattle.calendar.specs.Basics.{and-split, and-join, lt-or-ge, same-or-not, unrefused}
-use Rattle.calendar.specs.Search.{Found, nothing, at, when}
+use Rattle.cells.specs.Laws.Basics.{and-split, and-join, lt-or-ge, same-or-not, unrefused, or-left, or-right}
+use Rattle.calendar.specs.Search.{Found, nothing, at, when, isAt}
 use Rattle.timeline.specs.declared.ResourceTimeline.{ResourceTimeline}
 use Rattle.timeline.specs.Bookings.{Booking, bookings, times}
 use Rattle.timeline.specs.Diary.{insertBooking, diary}
 use Rattle.timeline.proofs.Rules as timeline-rules
 use Rattle.timeline.proofs.Rows.{count}
 use Rattle.timeline.proofs.Keeping.{booked-keeps, length-inserted, bookings-diary}
-use Rattle.calendar.specs.Every.{every}
+use Rattle.cells.specs.Every.{every, Each, each-end, each-on}
 use Rattle.board.specs.declared.LastCategory.the-variants.{Category}
 use Rattle.board.specs.declared.Resource.{Resource}
 use Rattle.board.specs.declared.Board.{Board}
-use Rattle.board.specs.Resources.{noResource, resourceAt, numberAt, lookupTo, lookup, isAt, onBoard}
+use Rattle.board.specs.Resources.{noResource, resourceAt, numberAt, lookupTo, lookup, onBoard}
 use Rattle.board.specs.Valid as board
 use Rattle.board.specs.Enter.{entered, changed}
 use Rattle.board.proofs.Facts.{rules}
@@ -33,9 +33,9 @@ use Rattle.scheduler.specs.Alike.{AlikeDiary}
 use Rattle.scheduler.specs.AlikeDiaries.{same-alike}
 use Rattle.timeline.specs.Book.{withBooking}
 use Rattle.scheduler.specs.Committing.{Line, entriesOn, linesOf, linesRefusal, commitRefusal, lastAfter, booked, bookAll, commitReply}
-use Rattle.scheduler.specs.Lists.{Each, each-end, each-on, each-weaken}
-use Rattle.scheduler.specs.Ruled.{on-place, on-valid}
-use Rattle.scheduler.specs.Tests.{or-left, or-right}
+use Rattle.cells.specs.Laws.Each.{each-weaken}
+use Rattle.scheduler.specs.Ruled.{on-valid}
+use Rattle.board.proofs.Knowing.{on-place}
 
 module _ (start end category : ℕ) where
   -- a resource that an entry does not name stays as it is
@@ -263,7 +263,7 @@ module _ (start end category : ℕ) (w : Bookable start end category) where
         ∙ lookup-same b after (b .len) n (λ m i. step-number start end category b l m (omega (arith, rules b v .few)))
 
     place : (i : ℕ) × (lookup b (l .number) ≡ at i) × (i < b .len)
-    place = on-place b v (l .number) (p .on)
+    place = on-place b (l .number) (p .on)
 
     here : resourceAt after (place .0) ≡ booked start end category l (resourceAt b (place .0))
     unfolding changed
@@ -273,7 +273,7 @@ module _ (start end category : ℕ) (w : Bookable start end category) where
     diary-after : (n : ℕ) → onBoard b n ≡ true → diaryOf after n .len ≡ diaryOf b n .len + cond (eqb (l .number) n) 1 0
     unfolding resourceIn when booked
     diary-after n o =
-        let q = on-place b v n o in
+        let q = on-place b n o in
         let e : lookup after n ≡ at (q .0) = lookup-after n ∙ q .1 in
         ap (λ (f : Found). resourceIn after f .timeline .len) e ∙ go (q .0) (q .1) (q .2) (eqb (l .number) n) refl ∙ sym (ap (λ (f : Found). resourceIn b f .timeline .len + cond (eqb (l .number) n) 1 0) (q .1))
       where

@@ -10,7 +10,7 @@ use lib.ListN.{length, getD, take, length-append, length-map, length-take}
 use lib.Dec.{eqb}
 use borrow.Author.Tests.{eqb-true, eqb-false}
 use Rattle.calendar.specs.declared.Calendar.{Calendar}
-use Rattle.calendar.specs.Basics.{not-both, lt-or-ge}
+use Rattle.cells.specs.Laws.Basics.{not-both, lt-or-ge}
 use Rattle.calendar.specs.Search.{Found, nothing, at}
 use Rattle.calendar.specs.Valid as calendar
 use Rattle.calendar.proofs.Rules as calendar-rules
@@ -28,7 +28,8 @@ use Rattle.scheduler.specs.Choosing.{Held, holds, round, greatestStart, 
 use Rattle.scheduler.specs.declared.Entry.{Entry}
 use Rattle.scheduler.specs.Fitting.{among, sharesOf, suits, fitting}
 use Rattle.scheduler.specs.Plain.{enough, heldAt}
-use Rattle.scheduler.specs.Lists.{Each, each-on, each-in-map}
+use Rattle.cells.specs.Every.{Each, each-on}
+use Rattle.cells.specs.Laws.Each.{each-in-map}
 use Rattle.scheduler.specs.Together.{Sound, together-answers}
 use Rattle.calendar.specs.Searching.{Answers, answers-same}
 use Rattle.scheduler.specs.Events.{events, eventsIn, eventsOf, among-left, among-right, among-cases, above, above-falls, above-length}

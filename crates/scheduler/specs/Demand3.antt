@@ -8,7 +8,7 @@ use native.Mathlib.Omega.{arith}
 use lib.ListN.{length, take, drop, length-map}
 use lib.Seq.{take-at}
 use lib.Dec.{ltb}
-use Rattle.calendar.specs.Basics.{not-both, lt-or-ge, unrefused}
+use Rattle.cells.specs.Laws.Basics.{not-both, lt-or-ge, unrefused}
 use Rattle.calendar.specs.Search.{Found, nothing, at, when}
 use Rattle.calendar.specs.Valid as calendar
 use Rattle.calendar.specs.Searching.{Earliest, not-at}
@@ -25,7 +25,7 @@ use Rattle.scheduler.specs.Fitting.{entriesOf, spanTogether, sharesOf, f
 use Rattle.calendar.specs.Refusals.{refusedOr}
 use Rattle.scheduler.specs.Placing.{Reply, placed, chosenNone, none, refused, ended, started, fitted, fitChosen, timeOnly, byRequirements, placing, placeRefusal, placeReply, rowOf, slateAfter, choosingInstant, refusalOf}
 use Rattle.scheduler.specs.Plain.{enough, heldAt}
-use Rattle.scheduler.specs.Lists.{Each, each-end, Pairs}
+use Rattle.cells.specs.Every.{Each, each-end, Pairs}
 use Rattle.scheduler.specs.Chosen.{Chooses}
 use Rattle.scheduler.specs.Meaning.{choosing-means, some-of-each}
 use Rattle.scheduler.specs.Alike.{Alike, NoExtra}

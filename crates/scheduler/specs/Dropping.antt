@@ -8,9 +8,10 @@ use native.Mathlib.Omega.{arith}
 use lib.ListN.{length, take}
 use lib.Dec.{ltb, eqb}
 use borrow.Author.Tests.{ltb-true, ltb-false, lt-ltb, eqb-true, eqb-false}
-use Rattle.calendar.specs.Basics.{not-both}
+use Rattle.cells.specs.Laws.Basics.{not-both}
 use Rattle.scheduler.specs.Choosing.{Candidate, sooner, comesFirst, insert, sortInto, sort, insertBy}
-use Rattle.scheduler.specs.Lists.{Each, each-end, each-on, each-weaken, Pairs, pairs-end, pairs-on}
+use Rattle.cells.specs.Every.{Each, each-end, each-on, Pairs, pairs-end, pairs-on}
+use Rattle.cells.specs.Laws.Each.{each-weaken}
 use Rattle.scheduler.specs.Ranking.{sooner-less, sooner-even, each-insert}
 
 -- earlier, or at the same start of shorter processing

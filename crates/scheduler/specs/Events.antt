@@ -8,15 +8,14 @@ use native.Mathlib.Omega.{arith}
 use lib.ListN.{getD, length, take}
 use lib.Dec.{ltb, eqb}
 use borrow.Author.Tests.{eqb-true, eqb-false, ltb-true, ltb-false}
-use Rattle.calendar.specs.Basics.{not-both, lt-or-ge}
+use Rattle.cells.specs.Laws.Basics.{not-both, lt-or-ge, or-left, or-right, or-in-left, or-in-right, or-cases}
 use Rattle.timeline.specs.declared.ResourceTimeline.{ResourceTimeline}
 use Rattle.timeline.proofs.Stepping.{Still}
 use Rattle.calendar.specs.Searching.{Earliest}
 use Rattle.scheduler.specs.Alone.{Share}
 use Rattle.scheduler.specs.Fitting.{among}
-use Rattle.scheduler.specs.Lists.{each-end, each-on}
+use Rattle.cells.specs.Every.{each-end, each-on}
 use Rattle.scheduler.specs.Together.{Calm}
-use Rattle.scheduler.specs.Tests.{or-left, or-right, or-in-left, or-in-right, or-cases}
 
 unfoldable pub events : ResourceTimeline → List ℕ
 events t =

@@ -5,7 +5,7 @@ use mathlib.Core.List.{List, [], _∷_, _++_, map}
 use lib.Dec.{eqb}
 use Rattle.calendar.specs.declared.Calendar.{Calendar}
 use Rattle.calendar.specs.Search.{Found, nothing, at, leastFrom, greatestOf}
-use Rattle.calendar.specs.Every.{every}
+use Rattle.cells.specs.Every.{every}
 use Rattle.calendar.specs.Fits.{fits}
 use Rattle.calendar.specs.Work.{lastChange, jointEnd}
 use Rattle.timeline.specs.Earliest.{freeOn}

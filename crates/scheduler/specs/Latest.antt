@@ -7,8 +7,8 @@ use mathlib.Core.Logic.{_⊎_, inl, inr, ⊎-elim}
 use Prim.Native.Nat.{ℕ, _≤_, _<_, max}
 use native.Mathlib.Omega.{arith}
 use Rattle.calendar.specs.Limits.{lastInstant}
-use Rattle.calendar.specs.Every.{every}
-use Rattle.calendar.specs.Basics.{and-split, and-join, no-way, not-both, lt-or-ge}
+use Rattle.cells.specs.Every.{every, each-end, each-on}
+use Rattle.cells.specs.Laws.Basics.{and-split, and-join, no-way, not-both, lt-or-ge}
 use Rattle.calendar.specs.Search.{Found, nothing, at}
 use Rattle.timeline.specs.Valid.{valid}
 use Rattle.timeline.specs.Earliest.{lastEvent}
@@ -20,8 +20,7 @@ use Rattle.timeline.proofs.Meaning.{fit-means, resumable-means}
 use Rattle.scheduler.specs.Alone.{Share, canStart, allStart, lastOf}
 use Rattle.scheduler.specs.Fitting.{among}
 use Rattle.scheduler.specs.Shares.{startOn, noShare}
-use Rattle.scheduler.specs.Lists.{each-end, each-on}
-use Rattle.scheduler.specs.Arrays.{each-at}
+use Rattle.cells.specs.Laws.Arrays.{each-at}
 use Rattle.scheduler.specs.Together.{Sound, can-back}
 use Rattle.scheduler.specs.Events.{events, eventsIn, eventsOf, among-left, among-right, still-else, least-listed}
 

@@ -12,9 +12,6 @@ pub mod Alike
 pub mod Demand3
 pub mod Committed
 -- Lemmas on lists, tests and sorting; on least starts of several diaries; on choosing; on alike boards.
-pub mod Tests
-pub mod Lists
-pub mod Arrays
 pub mod Ranking
 pub mod Dropping
 pub mod Together

@@ -7,7 +7,7 @@ use Prim.Native.Nat.{ℕ, _+_, _≤_, _<_}
 use native.Mathlib.Omega.{arith}
 use lib.ListN.{length, getD, drop, length-map}
 use lib.Seq.{drop-at}
-use Rattle.calendar.specs.Basics.{not-both}
+use Rattle.cells.specs.Laws.Basics.{not-both}
 use Rattle.calendar.specs.Search.{Found, nothing, at}
 use Rattle.calendar.specs.Valid as calendar
 use Rattle.calendar.specs.Work.{jointEnd}
@@ -16,7 +16,7 @@ use Rattle.calendar.specs.Searching.{Earliest, Answers, least-is}
 use Rattle.timeline.proofs.Meaning.{straight}
 use Rattle.activity.specs.declared.ResourceRequirement.{ResourceRequirement}
 use Rattle.activity.specs.declared.Activity.{Activity}
-use Rattle.calendar.specs.Every.{every}
+use Rattle.cells.specs.Every.{every, each-end}
 use Rattle.activity.proofs.Judging.{accepted}
 use Rattle.activity.specs.Check.{noRequirement, requirementsOf, quantity, activityRefusal}
 use Rattle.board.specs.declared.Board.{Board}
@@ -27,7 +27,6 @@ use Rattle.scheduler.specs.declared.Entry.{Entry}
 use Rattle.scheduler.specs.Fitting.{entriesOf, spanTogether, sharesOf, fitsAll, allFree, calendarsOf, freeToEnd, startsAll, suits, fitting, endOf}
 use Rattle.scheduler.specs.Placing.{Reply, placed, chosenNone, none, refused, ended, started, fitted, fitChosen, timeOnly, byRequirements, placing, rowOf, slateAfter}
 use Rattle.scheduler.specs.Plain.{enough, heldAt}
-use Rattle.scheduler.specs.Lists.{each-end}
 use Rattle.scheduler.specs.Together.{Sound}
 use Rattle.scheduler.specs.Events.{above-length}
 use Rattle.scheduler.specs.Chosen.{Chooses, rounds-mean}

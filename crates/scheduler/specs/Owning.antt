@@ -1,12 +1,12 @@
 -- The order's own calendar as a diary that nothing books, in front of the entries' diaries (the Rust's `own_timeline`).
 use mathlib.Core.Path.{_≡_, refl, sym, ap, _∙_}
-use mathlib.Core.Bool.{Bool, true, false, _&&_, and-comm}
+use mathlib.Core.Bool.{Bool, true, false, _&&_, and-comm, and-true}
 use mathlib.Core.List.{List, [], _∷_, map}
 use Prim.Native.Nat.{ℕ, suc, _+_, _-_, _≤_, max}
 use native.Mathlib.Omega.{arith}
-use Rattle.calendar.specs.Every.{every}
+use Rattle.cells.specs.Every.{every, each-end, each-on}
 use Rattle.calendar.specs.declared.Calendar.{Calendar}
-use Rattle.calendar.specs.Basics.{and-split, and-join, and-true, not-both}
+use Rattle.cells.specs.Laws.Basics.{and-split, and-join, not-both}
 use Rattle.calendar.specs.Search.{Found, nothing, at, leastFrom, greatestOf}
 use Rattle.calendar.specs.Valid as calendar
 use Rattle.calendar.specs.Fits.{fits}
@@ -25,7 +25,6 @@ use Rattle.timeline.proofs.Keeping.{diary-keeps, order-end, bookings-diary}
 use Rattle.timeline.proofs.Stepping.{free-on-back}
 use Rattle.scheduler.specs.Alone.{Share, canStart, allStart, lastOf}
 use Rattle.scheduler.specs.Fitting.{calendarOf, fitsAll, allFree, freeToEnd, startsAll, suits, lastAll, fitting}
-use Rattle.scheduler.specs.Lists.{each-end, each-on}
 use Rattle.scheduler.specs.Together.{Calm, all-back}
 
 abbrev pub ownShare : Calendar → Share

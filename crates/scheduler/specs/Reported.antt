@@ -4,22 +4,23 @@ use mathlib.Core.Bool.{Bool, true, false, _||_, cond}
 use mathlib.Core.List.{List, [], _∷_, _++_, map}
 use Prim.Native.Nat.{ℕ}
 use lib.ListN.{take}
-use Rattle.calendar.specs.Basics.{and-split}
+use Rattle.cells.specs.Laws.Basics.{and-split}
 use Rattle.activity.specs.declared.ResourceRequirement.{ResourceRequirement}
 use Rattle.activity.specs.declared.Activity.{Activity}
 use Rattle.activity.specs.Serving.{serves}
-use Rattle.calendar.specs.Every.{every}
+use Rattle.cells.specs.Every.{every, Each, each-end, each-on}
 use Rattle.board.specs.declared.Resource.{Resource}
 use Rattle.board.specs.declared.Board.{Board}
-use Rattle.board.specs.Resources.{noResource, resourcesOf, isAt, onBoard}
+use Rattle.board.specs.Resources.{noResource, resourcesOf, onBoard}
+use Rattle.calendar.specs.Search.{isAt}
 use Rattle.board.specs.Valid as board
 use Rattle.board.proofs.Meaning.{lookup-is}
 use Rattle.scheduler.specs.Alone.{companionsOf}
 use Rattle.scheduler.specs.Choosing.{sort, Held, heldFor, holdFirst}
 use Rattle.scheduler.specs.Fitting.{numbersOf, durationTogether, heldEntry, heldEntries, among, joinEach, allCompanions, companionEntry, companionEntries, entriesOf, sharesOf}
 use Rattle.scheduler.specs.Plain.{startsThere, candidateAt, startable, heldAt}
-use Rattle.scheduler.specs.Lists.{Each, each-end, each-on, each-append, each-take, each-every, each-weaken, each-in-map}
-use Rattle.scheduler.specs.Arrays.{each-cells}
+use Rattle.cells.specs.Laws.Each.{each-append, each-take, each-every, each-weaken, each-in-map}
+use Rattle.cells.specs.Laws.Arrays.{each-cells}
 use Rattle.scheduler.specs.Together.{Sound}
 use Rattle.scheduler.specs.Ranking.{each-sort}
 use Rattle.scheduler.specs.Ruled.{entries-valid}

@@ -9,7 +9,7 @@ use lib.Seq.{take-length, take-append-le}
 use lib.Dec.{leb, ltb}
 use borrow.Author.Tests.{leb-true, le-leb, ltb-false, le-ltb}
 use Rattle.calendar.specs.Search.{greatestOf}
-use Rattle.calendar.specs.Basics.{and-split, and-join, not-both}
+use Rattle.cells.specs.Laws.Basics.{and-split, and-join, not-both}
 use Rattle.calendar.specs.Searching.{greatest-each, greatest-most}
 use Rattle.activity.specs.declared.ResourceRequirement.{ResourceRequirement}
 use Rattle.activity.specs.declared.Activity.{Activity}
@@ -17,8 +17,9 @@ use Rattle.board.specs.declared.Board.{Board}
 use Rattle.board.specs.Resources.{noResource, resourcesOf}
 use Rattle.scheduler.specs.Choosing.{Candidate, sort, candidates, Held, heldFor, holdFirst, Round, tooFew, holds, behind, hold, round, greatestStart}
 use Rattle.scheduler.specs.Plain.{startable, enough, heldAt}
-use Rattle.scheduler.specs.Lists.{Each, each-end, each-on, each-append, each-take, each-in-map, each-of-map, each-left, each-right}
-use Rattle.scheduler.specs.Arrays.{each-at, each-cells}
+use Rattle.cells.specs.Every.{Each, each-end, each-on}
+use Rattle.cells.specs.Laws.Each.{each-append, each-take, each-in-map, each-of-map, each-left, each-right}
+use Rattle.cells.specs.Laws.Arrays.{each-at, each-cells}
 use Rattle.scheduler.specs.Ranking.{Low, High, low, high, low-each, high-each, low-high, sort-split, each-sort, length-sort}
 use Rattle.scheduler.specs.Answering.{Kept, low-startable, low-more, candidates-from}
 

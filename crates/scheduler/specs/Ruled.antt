@@ -9,31 +9,31 @@ use lib.ListN.{getD, length, take, length-append, length-map, length-take, List�
 use lib.Seq.{getD-take}
 use lib.Dec.{eqb}
 use borrow.Author.Tests.{eq-eqb, eqb-true}
-use Rattle.calendar.specs.Basics.{not-both, lt-or-ge}
-use Rattle.calendar.specs.Search.{Found, nothing, at}
+use Rattle.cells.specs.Laws.Basics.{not-both, lt-or-ge, or-in-left, or-in-right, or-cases}
+use Rattle.calendar.specs.Search.{Found, at}
 use Rattle.calendar.proofs.Rules as calendar
 use Rattle.timeline.specs.declared.ResourceTimeline.{ResourceTimeline}
 use Rattle.timeline.specs.Valid as timeline
 use Rattle.timeline.proofs.Rules as timeline-rules
 use Rattle.activity.specs.declared.ResourceRequirement.{ResourceRequirement}
 use Rattle.activity.specs.declared.Activity.{Activity}
-use Rattle.calendar.specs.Every.{every}
+use Rattle.cells.specs.Every.{every, Each, each-end, each-on}
 use Rattle.board.specs.declared.Resource.{Resource}
 use Rattle.board.specs.declared.Board.{Board}
-use Rattle.board.specs.Resources.{noResource, resourcesOf, resourceAt, lookup, isAt, onBoard}
+use Rattle.board.specs.Resources.{noResource, resourcesOf, resourceAt, lookup, onBoard}
 use Rattle.board.specs.Valid as board
 use Rattle.board.proofs.Facts.{rules}
-use Rattle.board.proofs.Meaning.{lookup-means, resource-of}
+use Rattle.board.proofs.Knowing.{on-place}
+use Rattle.board.proofs.Meaning.{resource-of}
 use Rattle.scheduler.specs.Alone.{Share, resourceIn, diaryOf, oneUnit, companionsOf, withCompanions, arrival}
 use Rattle.scheduler.specs.declared.Entry.{Entry}
 use Rattle.scheduler.specs.Fitting.{among, shareOf, sharesOf}
-use Rattle.scheduler.specs.Lists.{Each, each-end, each-on, each-every, each-weaken, each-in-map}
-use Rattle.scheduler.specs.Arrays.{each-cells}
+use Rattle.cells.specs.Laws.Each.{each-every, each-weaken, each-in-map}
+use Rattle.cells.specs.Laws.Arrays.{each-cells}
 use Rattle.scheduler.specs.Together.{Sound}
 use Rattle.scheduler.specs.Answering.{Kept}
 use Rattle.scheduler.specs.Events.{events, eventsIn, eventsOf, event-among, among-left, among-right, among-cases}
 use Rattle.scheduler.specs.Chosen.{Listed}
-use Rattle.scheduler.specs.Tests.{or-in-left, or-in-right, or-cases}
 
 -- the events on all diaries of a board
 unfoldable pub eventsOn : Board → List ℕ
@@ -105,24 +105,15 @@ module _ (b : Board) (v : board.valid b ≡ true) where
       (λ (l : b .len ≤ length (b .resources)). l)
       (lt-or-ge (length (b .resources)) (b .len))
 
-  -- a number on the board has a place there
-  pub on-place : (n : ℕ) → onBoard b n ≡ true → (i : ℕ) × (lookup b n ≡ at i) × (i < b .len)
-  unfolding isAt
-  on-place n e = go (lookup b n) refl e
-    where
-      go : (f : Found) → lookup b n ≡ f → isAt f ≡ true → (i : ℕ) × (lookup b n ≡ at i) × (i < b .len)
-      go nothing h k = absurd (not-both true refl (sym k))
-      go (at i) h k = (i, h, lookup-means b n i h .0)
-
   pub on-valid : (n : ℕ) → onBoard b n ≡ true → timeline.valid (diaryOf b n) ≡ true
   on-valid n e =
-      let w = on-place n e in
+      let w = on-place b n e in
       ap timeline.valid (diary-at b n (w .0) (w .1)) ∙ diary-valid (w .0) (w .2)
 
   -- the diaries of numbers on the board are: those of entries, and of a resource and its companions
   seated : (n : ℕ) (x : Share) → onBoard b n ≡ true → x .timeline ≡ diaryOf b n → Seated b x
   seated n x o e =
-      let w = on-place n o in
+      let w = on-place b n o in
       record { place = w .0; stands = w .2; so = e ∙ diary-at b n (w .0) (w .1) }
 
   pub entries-seated : (es : List Entry) → Each (λ e. onBoard b (e .number) ≡ true) es → Each (Seated b) (sharesOf b es)

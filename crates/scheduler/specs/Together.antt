@@ -4,14 +4,13 @@ use mathlib.Core.Bool.{Bool, true, false}
 use mathlib.Core.List.{List, [], _∷_}
 use Prim.Native.Nat.{ℕ, suc, _≤_}
 use native.Mathlib.Omega.{arith}
-use Rattle.calendar.specs.Every.{every}
-use Rattle.calendar.specs.Basics.{and-split, and-join}
+use Rattle.cells.specs.Every.{every, Each, each-end, each-on}
+use Rattle.cells.specs.Laws.Basics.{and-split, and-join}
 use Rattle.calendar.specs.Search.{Found, greatestOf}
 use Rattle.timeline.specs.Valid.{valid}
 use Rattle.timeline.proofs.Rules.{rules}
 use Rattle.timeline.proofs.Stepping.{Still, fits-at-back, starts-at-back, last-still}
 use Rattle.calendar.specs.Searching.{Answers, answers-same, least-answers}
-use Rattle.scheduler.specs.Lists.{Each, each-end, each-on}
 use Rattle.scheduler.specs.Alone.{Share, canStart, allStart, lastOf, earliestOf}
 
 -- every diary keeps the rules

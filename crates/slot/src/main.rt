@@ -1,8 +1,8 @@
 // The program `slot` (01): reads records from standard input and writes what they print. It only reads and writes; what a record
-// does is in `records`.
-use records::Turn;
-use slot_text::Line;
-use streams::Input;
+// does is in `record_diary`.
+use record_diary::Turn;
+use record_diary_text::Line;
+use record_streams::Input;
 use timeline::ResourceTimeline;
 ghost use Prim.Native.Nat.{_+_, _≤_};
 
@@ -11,7 +11,7 @@ fn next(t: ResourceTimeline, buf: &[u8; 65536], at: usize, len: usize) -> Turn
     requires { ⌜ (at ≤ len) × (len ≤ 65536) ⌝ }
     ensures { λ r. ⌜ r .at ≤ len ⌝ }
 {
-    records::record(t, buf, at, len)
+    record_diary::record(t, buf, at, len)
 }
 
 // Puts a line behind what waits.
@@ -19,7 +19,7 @@ fn print(line: Line, out: &mut [u8; 65536], used: usize) -> usize
     requires { ⌜ used + 46 ≤ 65536 ⌝ }
     ensures { λ r. ⌜ r ≤ 65536 ⌝ }
 {
-    slot_text::text(line, out, used)
+    record_diary_text::text(line, out, used)
 }
 
 // Nothing says that the input ends, so the turns count down from a number that no run uses up. A record has at most 21 bytes, a line 46.
@@ -37,15 +37,15 @@ fn main() {
     let mut more = true;
     while more && turns > 0 {
         turns -= 1;
-        s = streams::supply(s, &mut buf, 21);
+        s = record_streams::supply(s, &mut buf, 21);
         let r = next(t, &buf, s.at, s.len);
         let diary = r.timeline;
         let line = r.line;
         t = diary;
         s.at = r.at;
         more = r.more;
-        used = streams::relieve(&out, used, 46);
+        used = record_streams::relieve(&out, used, 46);
         used = print(line, &mut out, used);
     }
-    streams::relieve(&out, used, 65536);
+    record_streams::relieve(&out, used, 65536);
 }

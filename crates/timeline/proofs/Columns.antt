@@ -11,9 +11,8 @@ use lib.Dec.{ltb}
 use borrow.Author.Tests.{lt-ltb, ltb-true}
 use Rattle.calendar.specs.Search.{greatestOf}
 use Rattle.calendar.specs.Searching.{greatest-snoc}
-use Rattle.calendar.specs.Basics.{no-way, and-split}
-use Rattle.calendar.specs.Cells.{Rising, before}
-use Rattle.work_ends.specs.Layout.{Before}
+use Rattle.cells.specs.Laws.Basics.{no-way, and-split}
+use Rattle.cells.specs.Cells.{Rising, before, Before}
 use Rattle.timeline.specs.declared.ResourceTimeline.{ResourceTimeline}
 use Rattle.timeline.specs.Bookings.{Booking, bookingAt, bookingsTo, bookings, latestEnd}
 use Rattle.timeline.specs.Free.{overlaps, onAt, tally}

@@ -12,7 +12,7 @@ use Rattle.calendar.specs.declared.Calendar.{Calendar}
 use Rattle.calendar.specs.Valid as calendar
 use Rattle.timeline.specs.declared.ResourceTimeline.{ResourceTimeline}
 use Rattle.timeline.specs.Bookings.{Booking, bookingsTo, bookings, total}
-use Rattle.calendar.specs.Cells.{before}
+use Rattle.cells.specs.Cells.{before}
 use Rattle.timeline.specs.Valid.{valid}
 use Rattle.timeline.specs.Diary.{insertBooking, cells, latestEnds, diary}
 use Rattle.timeline.proofs.Rules.{CellFacts, rules, ruled}

@@ -8,8 +8,8 @@ use native.Mathlib.Omega.{arith}
 use lib.ListN.{getD, length}
 use lib.Dec.{leb, ltb}
 use borrow.Author.Tests.{leb-true, ltb-true, le-leb, lt-ltb}
-use Rattle.calendar.specs.Basics.{and-split, no-way, not-both, lt-or-ge}
-use Rattle.calendar.specs.Every.{from-at, from-all}
+use Rattle.cells.specs.Laws.Basics.{and-split, no-way, not-both, lt-or-ge}
+use Rattle.cells.specs.Laws.Every.{from-at, from-all}
 use Rattle.timeline.specs.Bookings.{Booking}
 use Rattle.timeline.specs.Free.{overlaps, onAt, tally, load, roomAt, free}
 use Rattle.timeline.specs.Steps.{overlapping}

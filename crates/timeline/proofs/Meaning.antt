@@ -7,7 +7,7 @@ use Prim.Native.Nat.{ℕ, suc, _+_, _-_, _≤_, max}
 use native.Mathlib.Omega.{arith}
 use borrow.Author.Tests.{eqb-true, eq-eqb}
 use Rattle.calendar.specs.declared.Calendar.{Calendar}
-use Rattle.calendar.specs.Basics.{and-split, no-way, not-both}
+use Rattle.cells.specs.Laws.Basics.{and-split, no-way, not-both}
 use Rattle.calendar.specs.Search.{at, leastFrom, greatestOf}
 use Rattle.calendar.specs.Fits.{fits}
 use Rattle.calendar.specs.Work.{joint, workEnd, lastChange, jointEnd}

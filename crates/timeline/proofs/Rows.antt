@@ -10,13 +10,11 @@ use lib.ListN.{getD, length, take, drop, replicate, length-append, length-replic
 use lib.Seq.{getD-at, ext-getD, length-take-le}
 use borrow.Author.Tests.{le-leb, lt-leb}
 use Rattle.calendar.specs.declared.Calendar.{Calendar}
-use Rattle.calendar.specs.Basics.{lt-or-ge}
+use Rattle.cells.specs.Laws.Basics.{lt-or-ge}
 use Rattle.timeline.specs.declared.ResourceTimeline.{ResourceTimeline}
 use Rattle.timeline.specs.Bookings.{Booking, bookingAt, bookingsTo, bookings, total}
-use Rattle.calendar.specs.Cells.{before}
+use Rattle.cells.specs.Cells.{before, Before, Opened, Latest}
 use Rattle.timeline.specs.Diary.{insertBooking, cells, latestEnds, diary}
-use Rattle.work_ends.specs.Layout.{Before}
-use Rattle.columns.specs.Steps.{Opened, Latest}
 use Rattle.timeline.proofs.Rules.{Rules, EmptyOf}
 
 abbrev pub none : Booking

@@ -8,11 +8,11 @@ use borrow.Author.Tests.{leb-true, ltb-true, eqb-true, le-leb, lt-ltb, eq-eqb}
 use Rattle.calendar.specs.declared.Calendar.{Calendar}
 use Rattle.calendar.specs.declared.Added.{Added}
 use Rattle.calendar.specs.Valid as calendar
-use Rattle.calendar.specs.Basics.{and-split}
-use Rattle.calendar.specs.Every.{from-at, from-all}
+use Rattle.cells.specs.Laws.Basics.{and-split}
+use Rattle.cells.specs.Laws.Every.{from-at, from-all}
 use Rattle.timeline.specs.declared.ResourceTimeline.{ResourceTimeline}
 use Rattle.timeline.specs.Bookings.{bookings, total}
-use Rattle.calendar.specs.Cells.{before}
+use Rattle.cells.specs.Cells.{before}
 use Rattle.timeline.specs.Valid.{cellRight, cellEmpty, filledAt, emptyAt, filledFrom, emptyFrom, valid}
 use Rattle.timeline.specs.Book.{withCalendar, calendarReply}
 

@@ -4,7 +4,7 @@ use mathlib.Core.Bool.{Bool, true, false}
 use mathlib.Core.Logic.{⊎-elim}
 use Prim.Native.Nat.{ℕ, zero, suc, _+_, _-_, _≤_, _<_, max}
 use native.Mathlib.Omega.{arith}
-use Rattle.calendar.specs.Basics.{no-way, not-both, lt-or-ge}
+use Rattle.cells.specs.Laws.Basics.{no-way, not-both, lt-or-ge}
 use Rattle.calendar.specs.Search.{Found, nothing, at, leastFrom}
 use Rattle.calendar.specs.Searching.{Earliest, least-found, answer-is}
 

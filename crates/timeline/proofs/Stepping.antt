@@ -1,6 +1,6 @@
 -- A span or work that fits one millisecond later fits here too, unless a window starts, a block ends or a booking ends there.
 use mathlib.Core.Path.{_≡_, refl, sym, ap, _∙_}
-use mathlib.Core.Bool.{true}
+use mathlib.Core.Bool.{true, and-true}
 use mathlib.Core.List.{List, [], _∷_}
 use mathlib.Core.Logic.{inl, inr, ⊎-elim}
 use Prim.Native.Nat.{ℕ, suc, _+_, _^_, _≤_, _<_}
@@ -9,9 +9,9 @@ use native.Mathlib.Omega.{arith}
 use lib.ListN.{getD, length}
 use Rattle.calendar.specs.declared.TimeWindows.{TimeWindows}
 use Rattle.calendar.specs.declared.Calendar.{Calendar}
-use Rattle.calendar.specs.Basics.{and-split, and-join, and-true, not-both}
+use Rattle.cells.specs.Laws.Basics.{and-split, and-join, not-both}
 use Rattle.calendar.specs.Search.{Found, nothing, at, greatestOf}
-use Rattle.calendar.specs.Every.{every}
+use Rattle.cells.specs.Every.{every}
 use Rattle.calendar.specs.Spans.{Span, spanAt, spans}
 use Rattle.calendar.specs.Spanning.{spans-long, span-at}
 use Rattle.calendar.specs.Valid as calendar

@@ -3,7 +3,7 @@ use Prim.Native.Nat.{ℕ, _+_, _-_}
 use mathlib.Core.Bool.{Bool, _&&_, cond}
 use mathlib.Core.List.{List, [], _∷_}
 use lib.Dec.{leb, ltb}
-use Rattle.calendar.specs.Every.{everyFrom}
+use Rattle.cells.specs.Every.{everyFrom}
 use Rattle.timeline.specs.Bookings.{Booking}
 
 -- a booking overlaps the span [s, e) when its start < e and s < its end

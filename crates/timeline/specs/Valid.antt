@@ -7,8 +7,8 @@ use lib.Dec.{leb, ltb, eqb}
 use Rattle.calendar.specs.Limits.{lastInstant, mostUnits, mostBookings}
 use Rattle.timeline.specs.declared.ResourceTimeline.{ResourceTimeline}
 use Rattle.timeline.specs.Bookings.{bookings, total}
-use Rattle.calendar.specs.Every.{everyFrom}
-use Rattle.calendar.specs.Cells.{before}
+use Rattle.cells.specs.Every.{everyFrom}
+use Rattle.cells.specs.Cells.{before}
 use Rattle.calendar.specs.Valid as calendar
 
 -- a filled cell: start, end, units and latest end, after a cell with start ps and latest end pl

@@ -3,7 +3,7 @@ use borrow.Author.Needs.{needs}
 use borrow.Author.Tests.{not-true, not-false}
 use mathlib.Core.Path.{sym, _∙_}
 use native.Mathlib.Omega.{arith}
-use Rattle.resource_numbers.proofs.Finding.{found-below, entry-at}
+use Rattle.board_numbers.proofs.Finding.{found-below, entry-at}
 use Rattle.board_diaries.proofs.Replying.{put-wrong, put-refused, put-taken}
 use Rattle.board_diaries.proofs.put_timeline.Statement.{statement}
 use Rattle.board_diaries.proofs.put_timeline.Tie as tie

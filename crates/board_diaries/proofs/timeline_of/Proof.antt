@@ -1,7 +1,7 @@
 -- `board_diaries::timeline_of` meets its contract.
 use borrow.Author.Needs.{needs}
 use native.Mathlib.Omega.{arith}
-use Rattle.resource_numbers.proofs.Finding.{found-below, entry-at}
+use Rattle.board_numbers.proofs.Finding.{found-below, entry-at}
 use Rattle.board_diaries.proofs.Replying.{looked-refused, looked-taken}
 use Rattle.board_diaries.proofs.timeline_of.Statement.{statement}
 use Rattle.board_diaries.proofs.timeline_of.Tie as tie

@@ -9,8 +9,8 @@ use Prim.Native.Nat.{ℕ, _+_, _-_, _≤_, _<_, min}
 use native.Mathlib.Omega.{arith}
 use lib.ListN.{length, replicate, length-set}
 use lib.Dec.{ltb}
-use Rattle.calendar.specs.Basics.{filled-next, lt-or-ge}
-use Rattle.calendar.specs.Every.{everyFrom}
+use Rattle.cells.specs.Laws.Basics.{filled-next, lt-or-ge}
+use Rattle.cells.specs.Every.{everyFrom}
 use Rattle.board.specs.declared.Board.{Board}
 use Rattle.board.specs.Resources.{resourceAt, numberAt}
 use Rattle.board.specs.Valid.{resourceRight, resourceBlank, cellRight, transportRight, valid}

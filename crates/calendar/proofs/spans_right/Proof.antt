@@ -5,7 +5,8 @@ use mathlib.Core.Path.{_≡_, refl, sym, _∙_}
 use Prim.Native.Nat.{_-_, _≤_}
 use native.Mathlib.Omega.{arith}
 use Rattle.calendar.specs.Valid.{cellAt, spansRight}
-use Rattle.calendar.specs.Every.{everyFrom, from-stop, from-more, from-done}
+use Rattle.cells.specs.Every.{everyFrom}
+use Rattle.cells.specs.Laws.Every.{from-stop, from-more, from-done}
 use Rattle.calendar.proofs.spans_right.Statement.{statement}
 use Rattle.calendar.proofs.spans_right.Tie as tie
 

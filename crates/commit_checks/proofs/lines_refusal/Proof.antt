@@ -8,7 +8,7 @@ use mathlib.Core.List.{[]}
 use lib.ListN.{getD}
 use Rattle.scheduler.specs.Committing.{linesOf}
 use Rattle.commit_checks.specs.Lines.{numbered}
-use Rattle.calendar.specs.Every.{first-at}
+use Rattle.cells.specs.Laws.Every.{first-at}
 use Rattle.commit_checks.proofs.Rows.{number-is, numbers-lines, units-lines, room-lines}
 use Rattle.commit_checks.proofs.Refusing.{refused-off, refused-category, refused-start, refused-end, refused-order, refused-units, refused-room, refused-none, check-passed, check-failed}
 

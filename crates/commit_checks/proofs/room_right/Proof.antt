@@ -7,10 +7,10 @@ use native.Mathlib.Omega.{arith}
 use lib.ListN.{getD, take}
 use Rattle.commit_checks.proofs.room_right.Statement.{statement}
 use Rattle.commit_checks.proofs.room_right.Tie as tie
-use Rattle.calendar.specs.Every.{every, first-at}
+use Rattle.cells.specs.Every.{every}
+use Rattle.cells.specs.Laws.Every.{first-at, every-next, every-off}
 use Rattle.commit_checks.specs.Lines.{numbered, roomy}
 use mathlib.Core.List.{[]}
-use Rattle.scheduler.specs.Arrays.{every-next, every-off}
 use Rattle.commit_checks.proofs.Rows.{RowPlace, number-is, room-short, room-enough}
 
 abbrev Inv-loop : tie.InvT-loop

@@ -7,10 +7,10 @@ use native.Mathlib.Omega.{arith}
 use lib.ListN.{length, getD, take}
 use Rattle.commit_checks.proofs.units_right.Statement.{statement}
 use Rattle.commit_checks.proofs.units_right.Tie as tie
-use Rattle.calendar.specs.Every.{every}
+use Rattle.cells.specs.Every.{every}
 use Rattle.commit_checks.specs.Lines.{metered}
 use mathlib.Core.List.{[]}
-use Rattle.scheduler.specs.Arrays.{every-next, every-off}
+use Rattle.cells.specs.Laws.Every.{every-next, every-off}
 use Rattle.commit_checks.proofs.Rows.{units-none, units-many, units-fine}
 
 abbrev Inv-loop : tie.InvT-loop

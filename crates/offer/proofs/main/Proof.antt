@@ -3,7 +3,7 @@ use borrow.Author.Needs.{needs}
 use native.Mathlib.Omega.{arith}
 use Prim.Native.Nat.{_≤_}
 use borrow.Author.Tests.{ltb-true}
-use Rattle.streams.specs.Input.{Lies}
+use Rattle.record_streams.specs.Input.{Lies}
 use Rattle.offer.proofs.main.Statement.{statement}
 use Rattle.offer.proofs.main.Tie as tie
 

@@ -1,6 +1,6 @@
 -- `placing::place_activity` meets its contract: refusal by refusal; then an order without requirements, no choice, or the choice; and its fit.
 use borrow.Author.Needs.{needs}
-use Rattle.entries.specs.Parts.{Taken}
+use Rattle.place_entries.specs.Parts.{Taken}
 use Rattle.placing.proofs.place_activity.Statement.{statement}
 use Rattle.placing.proofs.place_activity.Tie as tie
 use mathlib.Core.Path.{_≡_, refl, sym, ap, _∙_}
@@ -19,7 +19,7 @@ use Rattle.scheduler.specs.Choosing.{noChoice, chosen, choosing}
 use Rattle.scheduler.specs.Fitting.{sharesOf}
 use Rattle.scheduler.specs.Selections.{heldTo}
 use Rattle.scheduler.specs.Placing.{slateAfter, placeRefusal}
-use Rattle.fitting.specs.Closing.{closing, fitOf}
+use Rattle.place_fit.specs.Closing.{closing, fitOf}
 use Rattle.placing.specs.Told.{told}
 use Rattle.placing.proofs.Telling.{all-right, fitted-placed, fitted-none}
 use Rattle.placing.proofs.Entering.{entered}

@@ -5,7 +5,7 @@ use mathlib.Core.Bool.{Bool, true, false, _&&_}
 use mathlib.Core.Path.{_≡_, refl, sym, _∙_}
 use Prim.Native.Nat.{_-_}
 use lib.Dec.{eqb}
-use Rattle.calendar.specs.Basics.{not-both}
+use Rattle.cells.specs.Laws.Basics.{not-both}
 use Rattle.timeline.specs.Bookings.{bookings, total}
 use Rattle.timeline.specs.Valid.{filledFrom, emptyFrom}
 use Rattle.timeline.proofs.cells_right.Statement.{statement}

@@ -5,7 +5,7 @@ use mathlib.Core.Path.{_≡_, refl, sym, _∙_}
 use Prim.Native.Nat.{_-_, _≤_}
 use native.Mathlib.Omega.{arith}
 use Rattle.timeline.specs.Valid.{emptyFrom}
-use Rattle.calendar.specs.Every.{from-stop, from-more, from-done}
+use Rattle.cells.specs.Laws.Every.{from-stop, from-more, from-done}
 use Rattle.timeline.proofs.empty.Statement.{statement}
 use Rattle.timeline.proofs.empty.Tie as tie
 

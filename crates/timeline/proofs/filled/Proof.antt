@@ -8,9 +8,10 @@ use Prim.Native.Nat.{_-_, _*_, _≤_}
 use native.Mathlib.Nat.{sub-zero}
 use native.Mathlib.Omega.{arith}
 use lib.ListN.{getD}
-use Rattle.calendar.specs.Every.{from-stop, from-more, from-done}
+use Rattle.cells.specs.Laws.Every.{from-stop, from-more, from-done}
 use Rattle.timeline.specs.Bookings.{bookingAt, bookingsTo, bookings, total}
-use Rattle.calendar.specs.Cells.{before, before-step}
+use Rattle.cells.specs.Cells.{before}
+use Rattle.cells.specs.Laws.Cells.{before-step}
 use Rattle.timeline.specs.Valid.{filledFrom}
 use Rattle.timeline.proofs.Rules.{cell-facts, CellFacts}
 use Rattle.timeline.proofs.Rows.{weight-le, total-snoc, rows-step}

@@ -5,7 +5,7 @@ use Prim.Native.Nat.{_-_, _≤_, _<_}
 use native.Mathlib.Omega.{arith}
 use lib.ListN.{length, getD}
 use lib.Ieee.{ofBits}
-use Rattle.speeds.proofs.Bounds.{within-more}
+use Rattle.activity_speeds.proofs.Bounds.{within-more}
 use Rattle.activity.specs.Lawful.{leadingOf}
 use Rattle.activity.proofs.Holding.{Walk, walk-start, walk-step, walk-own, walk-base}
 use Rattle.activity.proofs.core.duration_on.Statement.{statement}

@@ -2,11 +2,10 @@
 use borrow.Author.Needs.{needs}
 use borrow.Author.Tests.{eq-eqb, ne-eqb}
 use mathlib.Core.Path.{_≡_, sym, _∙_}
-use mathlib.Core.Bool.{false}
+use mathlib.Core.Bool.{false, and-true, and-false}
 use Prim.Native.Nat.{ℕ, _/_, _^_, _<_}
 use lib.Bits.{bitAnd}
 use lib.Dec.{eqb}
-use Rattle.calendar.specs.Basics.{and-true, and-false}
 use Rattle.activity.specs.declared.ResourceRequirement.{ResourceRequirement}
 use Rattle.activity.specs.Serving.{candidate, serves}
 use Rattle.activity.proofs.Masks.{covers-yes, covers-no}

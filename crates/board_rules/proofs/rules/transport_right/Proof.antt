@@ -9,7 +9,8 @@ use native.Mathlib.Omega.{arith}
 use lib.Dec.{ltb}
 use lib.ListN.{getD}
 use Rattle.board.specs.Valid.{transportCell}
-use Rattle.calendar.specs.Every.{everyFrom, from-stop, from-more, from-done}
+use Rattle.cells.specs.Every.{everyFrom}
+use Rattle.cells.specs.Laws.Every.{from-stop, from-more, from-done}
 use Rattle.board_rules.proofs.rules.transport_right.Statement.{statement}
 use Rattle.board_rules.proofs.rules.transport_right.Tie as tie
 

@@ -6,7 +6,7 @@ use mathlib.Core.Bool.{true, not, _||_}
 use Prim.Native.Nat.{ℕ, zero, suc, _^_, _≤_, _<_}
 use native.Mathlib.Omega.{arith}
 use lib.Dec.{leb, ltb}
-use Rattle.calendar.specs.Basics.{or-left, or-right, unrefused}
+use Rattle.cells.specs.Laws.Basics.{or-left, or-right, unrefused}
 use Rattle.timeline.specs.declared.ResourceTimeline.{ResourceTimeline}
 use Rattle.timeline.specs.Valid.{valid}
 use Rattle.timeline.specs.Book.{bookRefusal, taken, bookReply}

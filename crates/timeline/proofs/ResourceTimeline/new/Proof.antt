@@ -9,7 +9,7 @@ use native.Mathlib.Omega.{arith}
 use mir.Syntax.{w32}
 use mir.ValLaws.{toZ-ofZ}
 use Rattle.calendar.specs.declared.Calendar.{Calendar}
-use Rattle.calendar.specs.Every.{everyFrom}
+use Rattle.cells.specs.Every.{everyFrom}
 use Rattle.calendar.specs.Add.{empty}
 use Rattle.calendar.specs.Valid as calendar
 use Rattle.timeline.specs.Valid.{valid}

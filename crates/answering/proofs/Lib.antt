@@ -1,3 +1,0 @@
--- The proofs of answering.
-pub mod Finding
-pub mod Noting

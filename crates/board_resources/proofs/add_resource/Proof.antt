@@ -1,0 +1,46 @@
+-- `board_resources::add_resource` meets its contract.
+use borrow.Author.Needs.{needs}
+use mathlib.Core.Path.{sym, _∙_}
+use native.Mathlib.Omega.{arith}
+use Rattle.board.specs.Enter.{withNew, addResourceReply}
+use Rattle.board.proofs.Replying.{refused-by, taken-by}
+use Rattle.board_resources.proofs.Replying.{add-taken}
+use Rattle.board_resources.proofs.add_resource.Statement.{statement}
+use Rattle.board_resources.proofs.add_resource.Tie as tie
+
+add-refusal-requires : tie.Need-add-refusal-requires
+add-refusal-requires c κs = search needs
+
+returns : tie.Need-returns
+unfolding addResourceReply
+returns c = refused-by _ _ _ _ (c .before .add-refusal .ensures) (c .if1 .taken)
+
+companion-cells-requires : tie.Need-companion-cells-requires
+companion-cells-requires c κs = add-taken _ _ _ _ (sym (c .before .add-refusal .ensures) ∙ c .if1 .left) .few
+
+blank-matrix-requires : tie.Need-blank-matrix-requires
+blank-matrix-requires c κs = search needs
+
+mul-t16 : tie.Need-mul-t16
+mul-t16 c =
+    let f = add-taken _ _ _ _ (sym (c .before .before .before .add-refusal .ensures) ∙ c .before .before .if1 .left) in
+    record { fits = omega (arith, f .room) }
+
+element-set-from-b : tie.Need-element-set-from-b
+element-set-from-b c =
+    let f = add-taken _ _ _ _ (sym (c .before .before .before .add-refusal .ensures) ∙ c .before .before .if1 .left) in
+    omega (arith, f .room)
+
+add-b : tie.Need-add-b
+add-b c =
+    let f = add-taken _ _ _ _ (sym (c .before .before .before .add-refusal .ensures) ∙ c .before .before .if1 .left) in
+    record { fits = omega (arith, f .room) }
+
+returns-2 : tie.Need-returns-2
+unfolding addResourceReply withNew
+returns-2 c = rw (c .before .companion-cells .ensures, c .blank-matrix .ensures) (taken-by _ _ _ (sym (c .before .before .before .add-refusal .ensures) ∙ c .before .before .if1 .left))
+
+pub add-resource-spec : {M : Type 1} → statement M
+add-resource-spec =
+    tie.close
+    (tie.spec add-refusal-requires returns companion-cells-requires blank-matrix-requires mul-t16 element-set-from-b add-b returns-2)

@@ -1,2 +1,0 @@
--- Laws of lengths, for the proofs of this crate and of those above it.
-pub mod Lengths

@@ -1,2 +1,0 @@
--- The bodies of records.
-pub mod Bodies

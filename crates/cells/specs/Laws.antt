@@ -1,0 +1,6 @@
+-- Laws of tests, of 'each' and of cells, for every crate above.
+pub mod Basics
+pub mod Every
+pub mod Each
+pub mod Arrays
+pub mod Cells

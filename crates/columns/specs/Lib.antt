@@ -1,2 +1,0 @@
--- What the functions on columns answer.
-pub mod Steps

@@ -1,2 +1,0 @@
--- How the code gathers the entries of those held.
-pub mod Parts

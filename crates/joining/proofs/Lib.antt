@@ -1,2 +1,0 @@
--- Companions that join once each.
-mod Joining

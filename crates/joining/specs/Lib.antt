@@ -1,2 +1,0 @@
--- What is read of the cells.
-pub mod Cells

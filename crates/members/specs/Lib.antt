@@ -1,2 +1,0 @@
--- Who is asked next.
-pub mod Members

@@ -1,0 +1,73 @@
+// Fitting: the least start at which all entries and the order's own calendar fit unbroken (the second half of `place_activity` and
+// `own_timeline` in scheduler/simple.rs; 01, 'Fitting').
+use board::Board;
+use calendar::Calendar;
+use timeline_fit::Start;
+use place_entries::Entries;
+use timeline::ResourceTimeline;
+ghost use mathlib.Core.Path.{_≡_};
+ghost use mathlib.Core.Bool.{true, false};
+ghost use Prim.Native.Nat.{_≤_};
+ghost use lib.ListN.{take};
+ghost use Rattle.calendar.specs.Limits.{lastAsked, longestSpan};
+ghost use Rattle.calendar.specs.Valid as calendar;
+ghost use Rattle.board.specs.Valid.{valid};
+ghost use Rattle.scheduler.specs.Fitting.{sharesOf};
+ghost use Rattle.scheduler.specs.Owning.{ownShare};
+ghost use Rattle.board.specs.Places.{Known};
+ghost use Rattle.place_fit.specs.Closing.{EntriesOn, closing, fitOf};
+
+// A start with its end, or none.
+pub enum Fit {
+    At(u64, u64),
+    Nothing,
+}
+
+// The order's own calendar as a diary that nothing books.
+pub fn own_timeline(calendar: Calendar) -> ResourceTimeline
+    ensures { λ r. ⌜ r ≡ ownShare calendar .timeline ⌝ }
+{
+    let mut t = ResourceTimeline::new(1);
+    t.calendar = calendar;
+    t
+}
+
+// Unbroken: the least start on the own calendar and the diaries of all entries, each asked from the start that the one before gave.
+pub fn fit_unbroken(
+    b: Board,
+    e: Entries,
+    places: [usize; 16],
+    own: Calendar,
+    span: u64,
+    from: u64,
+) -> Fit
+    requires { ⌜ (valid b ≡ true) × Known b places × (calendar.valid own ≡ true) × EntriesOn b (e .entries) (e .count) × (from ≤ lastAsked) × (span ≤ longestSpan) ⌝ }
+    ensures { λ r. ⌜ fitOf r ≡ closing false (sharesOf b (take (e .count) (e .entries))) own span from ⌝ }
+{
+    let first = own_timeline(own);
+    let n = e.count + 1;
+    let mut t = from;
+    let mut i: usize = 0;
+    while i < n {
+        let mut units: u32 = 1;
+        let d = if 0 < i {
+            let x = e.entries[i - 1];
+            let r = b.resources[places[x.number as usize]];
+            units = x.units;
+            r.timeline
+        } else {
+            first
+        };
+        let s = timeline_fit::earliest_fit(d, t, span, units);
+        match s {
+            Start::At(x) => {
+                i = place_companions::next_asked(i, x == t);
+                t = x;
+            }
+            Start::Nothing => {
+                return Fit::Nothing;
+            }
+        }
+    }
+    Fit::At(t, t + span)
+}

@@ -1,0 +1,53 @@
+-- `record_diary_text::lines::put_fit` meets its contract: four pieces, one behind the other.
+use borrow.Author.Needs.{needs}
+use native.Mathlib.Omega.{arith}
+use mathlib.Core.List.{[], _∷_}
+use Rattle.record_texts.specs.Laws.{then}
+use Rattle.record_diary_text.specs.Lines.{textOf}
+use Rattle.record_diary_text.proofs.lines.put_fit.Statement.{statement}
+use Rattle.record_diary_text.proofs.lines.put_fit.Tie as tie
+
+slice-aggregate-put : tie.Need-slice-aggregate-put
+slice-aggregate-put c = search needs
+
+put-requires : tie.Need-put-requires
+put-requires c κs = search needs
+
+put-value-requires : tie.Need-put-value-requires
+put-value-requires c κs = search needs
+
+put-value-requires-2 : tie.Need-put-value-requires-2
+put-value-requires-2 c κs = search needs
+
+slice-aggregate-put-2 : tie.Need-slice-aggregate-put-2
+slice-aggregate-put-2 c = search needs
+
+put-requires-2 : tie.Need-put-requires-2
+put-requires-2 c κs = search needs
+
+same-length : tie.Need-same-length
+same-length c = search needs
+
+returns : tie.Need-returns
+unfolding textOf
+returns c =
+    let p = c .before .before .before .before .before .before .before .before .before .before .before .before .before .before .before .put in
+    let q = c .before .before .before .before .before .before .before .before .before .before .before .put-value in
+    let r = c .before .before .before .before .before .before .before .put-value2 in
+    let s = c .before .before .put2 in (
+      then _ (102 ∷ 105 ∷ 116 ∷ []) _ _ _ _ _ _ (omega arith) (p .ensures) (then _ _ _ _ _ _ _ _ (omega arith) (q .ensures .0) (then _ _ _ (10 ∷ []) _ _ _ _ (omega arith) (r .ensures .0) (s .ensures))),
+      omega arith,
+    )
+
+pub put-fit-spec : {M : Type 1} → statement M
+put-fit-spec =
+    tie.close
+    (tie.spec
+    slice-aggregate-put
+    put-requires
+    put-value-requires
+    put-value-requires-2
+    slice-aggregate-put-2
+    put-requires-2
+    same-length
+    returns)

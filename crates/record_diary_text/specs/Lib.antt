@@ -1,0 +1,2 @@
+-- Document 01, 'Program slot': lines.
+pub mod Lines

@@ -1,0 +1,83 @@
+-- What a record does in `offer` (docs/RECORDS.md): kinds 1 to 4 and 16 to 24 as elsewhere, 25 places the order in hand on the slate, 26
+-- commits entries of the slate.
+use Prim.Native.Nat.{ℕ, _+_, _-_}
+use mathlib.Core.Bool.{true, false, not, cond}
+use mathlib.Core.List.{List}
+use lib.ListN.{length}
+use lib.Dec.{leb, eqb}
+use Rattle.record_bodies.specs.Numbers.{little}
+use Rattle.scheduler.specs.Placing.{Reply, slateAfter, placeReply}
+use Rattle.scheduler.specs.Committing.{commitReply}
+use Rattle.placing.specs.declared.Placement.{Placement}
+use Rattle.placing.specs.declared.Placement.the-variants.{Placed, ChosenNone, None, Refused}
+use Rattle.placing.specs.Told as placed
+use Rattle.record_desk.specs.declared.Desk.{Desk}
+use Rattle.record_board.specs.declared.Stepped.{Stepped}
+use Rattle.record_bodies.specs.Bodies.{byte, whole, bodyLen}
+use Rattle.record_board.specs.Records.{entered, stepReply}
+use Rattle.record_offer.specs.declared.Turn.{Turn}
+use Rattle.record_offer.specs.declared.Answer.{Answer}
+use Rattle.record_offer.specs.declared.Answer.the-variants as answer
+
+-- the body that begins at index i, the input ending at index n: 0 for an unknown kind or a cut body
+unfoldable pub offerLen : ℕ → List ℕ → ℕ → ℕ → ℕ
+offerLen kind bs i n = cond (eqb kind 25) (whole (n - i) 8) (cond (eqb kind 26) (whole (n - i) 20) (bodyLen kind bs i n))
+
+-- 25: ready (8); the order in hand is placed on the board in hand
+unfoldable pub placing : Desk → List (List ℕ) → List ℕ → ℕ → Reply
+placing d slate bs i = placeReply (d .board) (d .activity) (little bs i 8) (length slate)
+
+unfoldable pub answerOf : Placement → Answer
+answerOf (Placed t s e n) = answer.Placed t s e n
+answerOf (ChosenNone t) = answer.Chosen t
+answerOf None = answer.None
+answerOf (Refused n) = answer.Refused n
+
+-- choosing instant, start, end and the count of entries; 'chosen, none' with the choosing instant; none; a refusal
+unfoldable pub placedAnswer : Desk → List (List ℕ) → List ℕ → ℕ → Answer
+placedAnswer d slate bs i = answerOf (placed.told (placing d slate bs i))
+
+-- 26: count (4), start, end (8 each); the first count entries of the slate are committed with the order's category, and the board in hand
+-- is the one with their bookings
+unfoldable pub commitDoes : Desk → List (List ℕ) → List ℕ → ℕ → Stepped
+commitDoes d slate bs i =
+    entered d (commitReply (d .board) slate (little bs i 4) (little bs (i + 4) 8) (little bs (i + 12) 8) (d .activity .category))
+
+-- what a record answers where it is accepted; a refusal is told, and 9 ends the stream
+unfoldable pub told : Stepped → Answer → ℕ → Turn
+told s a i =
+    cond (eqb (s .refusal) 0) (record { desk = s .desk; answer = a; at = i; more = true })
+    (record { desk = s .desk; answer = answer.Refused (s .refusal); at = i; more = not (eqb (s .refusal) 9) })
+
+unfoldable pub ends : Desk → Answer → ℕ → Turn
+ends d a i = record { desk = d; answer = a; at = i; more = false }
+
+-- a record of this kind, its body beginning at index i and the next record at index j
+unfoldable pub recordDoes : Desk → List (List ℕ) → ℕ → List ℕ → ℕ → ℕ → Turn
+recordDoes d slate kind bs i j =
+    cond (eqb kind 25) (record { desk = d; answer = placedAnswer d slate bs i; at = j; more = true })
+    (cond (eqb kind 26) (told (commitDoes d slate bs i) answer.Committed j)
+    (told (stepReply d kind bs i) answer.Nothing j))
+
+-- the record that begins at index i, the input ending at index n
+unfoldable pub turnReply : Desk → List (List ℕ) → List ℕ → ℕ → ℕ → Turn
+turnReply d slate bs i n =
+    cond (leb n i) (ends d answer.Nothing i)
+    (cond (eqb (offerLen (byte bs i) bs (i + 1) n) 0) (ends d (answer.Refused 9) i)
+    (recordDoes d slate (byte bs i) bs (i + 1) (i + 1 + offerLen (byte bs i) bs (i + 1) n)))
+
+-- the slate afterwards: only placing writes on it
+unfoldable pub slateReply : Desk → List (List ℕ) → List ℕ → ℕ → ℕ → List (List ℕ)
+slateReply d slate bs i n =
+    cond (leb n i) slate
+    (cond (eqb (offerLen (byte bs i) bs (i + 1) n) 0) slate
+    (cond (eqb (byte bs i) 25) (slateAfter (placing d slate bs (i + 1)) slate) slate))
+
+-- how many entries of the slate an answer speaks of
+unfoldable pub shown : Answer → ℕ
+shown answer.Nothing = 0
+shown (answer.Placed t s e n) = n
+shown (answer.Chosen t) = 0
+shown answer.None = 0
+shown answer.Committed = 0
+shown (answer.Refused n) = 0

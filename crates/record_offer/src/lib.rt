@@ -1,0 +1,160 @@
+// What a record of a stream does in `offer` (docs/RECORDS.md, kinds 1 to 4 and 16 to 26): to a diary in hand, an order in hand, a board
+// and a slate.
+use record_board::Stepped;
+use record_board::step;
+use record_bodies::body_len;
+use record_desk::Desk;
+use placing::Placement;
+use record_bodies::number;
+ghost use mathlib.Core.Path.{_≡_};
+ghost use Prim.Native.Nat.{_+_, _≤_};
+ghost use lib.ListN.{length};
+ghost use Rattle.scheduler.specs.Placing.{slateAfter};
+ghost use Rattle.record_offer.specs.Offers.{offerLen, answerOf, placing as placingOf, placedAnswer, commitDoes, told as toldOf, ends, shown, turnReply, slateReply};
+
+// What a record answers; `Nothing` prints nothing. A placement: choosing instant, start, end, and how many entries stand on the slate.
+pub enum Answer {
+    Nothing,
+    Placed(u64, u64, u64, usize),
+    Chosen(u64),
+    None,
+    Committed,
+    Refused(u8),
+}
+
+// A record read from a run of bytes: what is in hand, what it answered, where the next one begins, and whether to go on.
+pub struct Turn {
+    pub desk: Desk,
+    pub answer: Answer,
+    pub at: usize,
+    pub more: bool,
+}
+
+// How many bytes the body has that begins at `at`, `len` being the end of the input: 0 for an unknown kind or a cut body.
+fn offer_len(kind: u8, bytes: &[u8], at: usize, len: usize) -> usize
+    requires { ⌜ (at ≤ len) × (len ≤ length (now bytes)) ⌝ }
+    ensures { λ r. ⌜ (r ≡ offerLen kind (now (bytes .entry)) at len) × (at + r ≤ len) ⌝ }
+{
+    let rest = len - at;
+    if kind == 25 {
+        return if rest < 8 { 0 } else { 8 };
+    }
+    if kind == 26 {
+        return if rest < 20 { 0 } else { 20 };
+    }
+    body_len(kind, bytes, at, len)
+}
+
+// What placing answers.
+fn answer_of(p: Placement) -> Answer
+    ensures { λ r. ⌜ r ≡ answerOf p ⌝ }
+{
+    match p {
+        Placement::Placed(choosing, start, end, count) => Answer::Placed(
+            choosing,
+            start,
+            end,
+            count,
+        ),
+        Placement::ChosenNone(choosing) => Answer::Chosen(choosing),
+        Placement::None => Answer::None,
+        Placement::Refused(n) => Answer::Refused(n),
+    }
+}
+
+// Kind 25: places the order in hand, on the slate.
+fn place(desk: Desk, slate: &mut [[u64; 4]], bytes: &[u8], at: usize) -> Answer
+    requires { ⌜ at + 8 ≤ length (now bytes) ⌝ }
+    ensures { λ r. ⌜ r ≡ placedAnswer desk (now (slate .entry)) (now (bytes .entry)) at ⌝ }
+    ensures { λ _. ⌜ now (slate .exit) ≡ slateAfter (placingOf desk (now (slate .entry)) (now (bytes .entry)) at) (now (slate .entry)) ⌝ }
+{
+    let ready = number(bytes, at, 8);
+    let p = placing::place_activity(desk.board, desk.activity, ready, slate);
+    answer_of(p)
+}
+
+// Kind 26: commits the first entries of the slate, with the order's category.
+fn commit(desk: Desk, slate: &[[u64; 4]], bytes: &[u8], at: usize) -> Stepped
+    requires { ⌜ at + 20 ≤ length (now bytes) ⌝ }
+    ensures { λ r. ⌜ r ≡ commitDoes desk (now (slate .entry)) (now (bytes .entry)) at ⌝ }
+{
+    let count = number(bytes, at, 4) as usize;
+    let start = number(bytes, at + 4, 8);
+    let end = number(bytes, at + 12, 8);
+    let order = desk.activity;
+    let e = committing::commit(desk.board, slate, count, start, end, order.category);
+    let b = e.board;
+    let mut d = desk;
+    d.board = b;
+    Stepped {
+        desk: d,
+        refusal: e.refusal,
+    }
+}
+
+// The stream ends here with this answer.
+fn last(desk: Desk, answer: Answer, at: usize) -> Turn
+    ensures { λ r. ⌜ r ≡ ends desk answer at ⌝ }
+{
+    Turn {
+        desk: desk,
+        answer: answer,
+        at: at,
+        more: false,
+    }
+}
+
+// A refusal is told in place of the answer, and 9 ends the stream.
+fn told(s: Stepped, answer: Answer, at: usize) -> Turn
+    ensures { λ r. ⌜ r ≡ toldOf s answer at ⌝ }
+{
+    let d = s.desk;
+    if s.refusal == 0 {
+        return Turn {
+            desk: d,
+            answer: answer,
+            at: at,
+            more: true,
+        };
+    }
+    Turn {
+        desk: d,
+        answer: Answer::Refused(s.refusal),
+        at: at,
+        more: s.refusal != 9,
+    }
+}
+
+// The record that begins at `at`, `len` being the end of the input: nothing where the input ends here, 9 for an unknown kind or a
+// cut body.
+pub fn record(desk: Desk, slate: &mut [[u64; 4]], bytes: &[u8], at: usize, len: usize) -> Turn
+    requires { ⌜ (at ≤ len) × (len ≤ length (now bytes)) ⌝ }
+    ensures { λ r. ⌜ (r ≡ turnReply desk (now (slate .entry)) (now (bytes .entry)) at len) × (r .at ≤ len) ⌝ }
+    ensures { λ r. ⌜ (now (slate .exit) ≡ slateReply desk (now (slate .entry)) (now (bytes .entry)) at len) × (shown (r .answer) ≤ length (now (slate .exit))) ⌝ }
+{
+    if at == len {
+        return last(desk, Answer::Nothing, at);
+    }
+    let kind = bytes[at];
+    let n = offer_len(kind, bytes, at + 1, len);
+    if n == 0 {
+        return last(desk, Answer::Refused(9), at);
+    }
+    if kind == 25 {
+        let answer = place(desk, slate, bytes, at + 1);
+        return Turn {
+            desk: desk,
+            answer: answer,
+            at: at + 1 + n,
+            more: true,
+        };
+    }
+    if kind == 26 {
+        return told(
+            commit(desk, slate, bytes, at + 1),
+            Answer::Committed,
+            at + 1 + n,
+        );
+    }
+    told(step(desk, kind, bytes, at + 1), Answer::Nothing, at + 1 + n)
+}

@@ -1,0 +1,82 @@
+-- `record_offer_text::put_entry` meets its contract: six pieces, one behind the other.
+use borrow.Author.Needs.{needs}
+use native.Mathlib.Omega.{arith}
+use Rattle.record_texts.specs.Laws.{then}
+use Rattle.record_offer_text.specs.Lines.{entryText}
+use Rattle.record_offer_text.proofs.put_entry.Statement.{statement}
+use Rattle.record_offer_text.proofs.put_entry.Tie as tie
+
+slice-aggregate-put : tie.Need-slice-aggregate-put
+slice-aggregate-put c = search needs
+
+put-requires : tie.Need-put-requires
+put-requires c κs = search needs
+
+array-read-put-value : tie.Need-array-read-put-value
+array-read-put-value c = search needs
+
+put-value-requires : tie.Need-put-value-requires
+put-value-requires c κs = search needs
+
+array-read-put-value-2 : tie.Need-array-read-put-value-2
+array-read-put-value-2 c = search needs
+
+put-value-requires-2 : tie.Need-put-value-requires-2
+put-value-requires-2 c κs = search needs
+
+array-read-put-value-3 : tie.Need-array-read-put-value-3
+array-read-put-value-3 c = search needs
+
+put-value-requires-3 : tie.Need-put-value-requires-3
+put-value-requires-3 c κs = search needs
+
+array-read-put-value-4 : tie.Need-array-read-put-value-4
+array-read-put-value-4 c = search needs
+
+put-value-requires-4 : tie.Need-put-value-requires-4
+put-value-requires-4 c κs = search needs
+
+slice-aggregate-put-2 : tie.Need-slice-aggregate-put-2
+slice-aggregate-put-2 c = search needs
+
+put-requires-2 : tie.Need-put-requires-2
+put-requires-2 c κs = search needs
+
+same-length : tie.Need-same-length
+same-length c = search needs
+
+returns : tie.Need-returns
+unfolding entryText
+returns c =
+    let h = c .before .before .before .before .before .before .before .before .before .before .before .before .before .before .before .before .before .before .before .before .before .before .before .before .before .before .before .pre in
+    let p = c .before .before .before .before .before .before .before .before .before .before .before .before .before .before .before .before .before .before .before .before .before .before .before .put in
+    let q = c .before .before .before .before .before .before .before .before .before .before .before .before .before .before .before .before .before .before .before .put-value in
+    let r = c .before .before .before .before .before .before .before .before .before .before .before .before .before .before .before .put-value2 in
+    let s = c .before .before .before .before .before .before .before .before .before .before .before .put-value3 in
+    let t = c .before .before .before .before .before .before .before .put-value4 in
+    let u = c .before .before .put2 in (
+      then _ _ _ _ _ _ _ _ (omega arith) (p .ensures)
+          (then _ _ _ _ _ _ _ _ (omega arith) (q .ensures .0)
+          (then _ _ _ _ _ _ _ _ (omega arith) (r .ensures .0)
+          (then _ _ _ _ _ _ _ _ (omega arith) (s .ensures .0) (then _ _ _ _ _ _ _ _ (omega arith) (t .ensures .0) (u .ensures))))),
+      omega arith,
+    )
+
+pub put-entry-spec : {M : Type 1} → statement M
+put-entry-spec =
+    tie.close
+    (tie.spec
+    slice-aggregate-put
+    put-requires
+    array-read-put-value
+    put-value-requires
+    array-read-put-value-2
+    put-value-requires-2
+    array-read-put-value-3
+    put-value-requires-3
+    array-read-put-value-4
+    put-value-requires-4
+    slice-aggregate-put-2
+    put-requires-2
+    same-length
+    returns)

@@ -1,0 +1,45 @@
+-- What an answer of `offer` prints, as bytes (docs/RECORDS.md).
+use Prim.Native.Nat.{ℕ}
+use mathlib.Core.List.{List, [], _∷_, _++_}
+use lib.ListN.{getD, take}
+use Rattle.record_texts.specs.Text.{decimal}
+use Rattle.timeline.specs.Ask.{none, refused}
+use Rattle.record_diary_text.specs.Lines as slot
+use Rattle.record_offer.specs.declared.Answer.{Answer}
+use Rattle.record_offer.specs.declared.Answer.the-variants.{Nothing, Placed, Chosen, None, Committed, Refused}
+use Rattle.record_offer.specs.Offers.{shown}
+
+-- a space and a number
+abbrev pub value : ℕ → List ℕ
+value n = 32 ∷ decimal n
+
+-- `placed CHOOSING START END COUNT`; 10 is the line's end
+unfoldable pub placedText : ℕ → ℕ → ℕ → ℕ → List ℕ
+placedText t s e n = (112 ∷ 108 ∷ 97 ∷ 99 ∷ 101 ∷ 100 ∷ []) ++ (value t ++ (value s ++ (value e ++ (value n ++ (10 ∷ [])))))
+
+-- `chosen CHOOSING none`
+unfoldable pub chosenText : ℕ → List ℕ
+chosenText t = (99 ∷ 104 ∷ 111 ∷ 115 ∷ 101 ∷ 110 ∷ []) ++ (value t ++ (32 ∷ 110 ∷ 111 ∷ 110 ∷ 101 ∷ 10 ∷ []))
+
+-- `entry NUMBER SETUP UNITS COMPANION`, of a row of the slate
+unfoldable pub entryText : List ℕ → List ℕ
+entryText row =
+    (101 ∷ 110 ∷ 116 ∷ 114 ∷ 121 ∷ [])
+    ++ (value (getD row 0 0) ++ (value (getD row 1 0) ++ (value (getD row 2 0) ++ (value (getD row 3 0) ++ (10 ∷ [])))))
+
+unfoldable pub entriesText : List (List ℕ) → List ℕ
+entriesText [] = []
+entriesText (row ∷ rows) = entryText row ++ entriesText rows
+
+-- `none` and `refused N` as in `slot`; `committed`
+unfoldable pub lineText : Answer → List ℕ
+lineText Nothing = []
+lineText (Placed t s e n) = placedText t s e n
+lineText (Chosen t) = chosenText t
+lineText None = slot.textOf (slot.line none)
+lineText Committed = 99 ∷ 111 ∷ 109 ∷ 109 ∷ 105 ∷ 116 ∷ 116 ∷ 101 ∷ 100 ∷ 10 ∷ []
+lineText (Refused n) = slot.textOf (slot.line (refused n))
+
+-- the line, and behind a placement's its entries
+unfoldable pub textOf : Answer → List (List ℕ) → List ℕ
+textOf a slate = lineText a ++ entriesText (take (shown a) slate)

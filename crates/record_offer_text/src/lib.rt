@@ -1,0 +1,113 @@
+// The text that an answer of `offer` prints (docs/RECORDS.md): its line and, behind a placement's, a line for each entry of the slate
+// that it speaks of.
+use record_offer::Answer;
+use record_diary_text::Line;
+use record_texts::put;
+use record_texts::put_value;
+ghost use mathlib.Core.Path.{_≡_};
+ghost use Prim.Native.Nat.{_+_, _*_, _≤_};
+ghost use lib.ListN.{length, take};
+ghost use Rattle.record_texts.specs.Text.{Put};
+ghost use Rattle.record_offer.specs.Offers.{shown as shownOf};
+ghost use Rattle.record_offer_text.specs.Lines.{entryText, entriesText, lineText, textOf, placedText, chosenText};
+
+// `entry NUMBER SETUP UNITS COMPANION`.
+fn put_entry(out: &mut [u8], at: usize, row: [u64; 4]) -> usize
+    requires { ⌜ at + 90 ≤ length (now out) ⌝ }
+    ensures { λ r. ⌜ Put (now (out .entry)) at (entryText row) (now (out .exit)) r ⌝ }
+    ensures { λ r. ⌜ r ≤ at + 90 ⌝ }
+{
+    let a = put(out, at, b"entry");
+    let b = put_value(out, a, row[0]);
+    let c = put_value(out, b, row[1]);
+    let d = put_value(out, c, row[2]);
+    let e = put_value(out, d, row[3]);
+    put(out, e, b"\n")
+}
+
+// The first entries of the slate.
+fn put_entries(out: &mut [u8], at: usize, slate: &[[u64; 4]], count: usize) -> usize
+    requires { ⌜ (count ≤ length (now slate)) × (at + 90 * count ≤ length (now out)) ⌝ }
+    ensures { λ r. ⌜ Put (now (out .entry)) at (entriesText (take count (now (slate .entry)))) (now (out .exit)) r ⌝ }
+    ensures { λ r. ⌜ r ≤ at + 90 * count ⌝ }
+{
+    let mut end = at;
+    let mut i: usize = 0;
+    while i < count {
+        end = put_entry(out, end, slate[i]);
+        i += 1;
+    }
+    end
+}
+
+// `placed CHOOSING START END COUNT`.
+fn put_placed(out: &mut [u8], at: usize, choosing: u64, start: u64, end: u64, count: usize) -> usize
+    requires { ⌜ at + 91 ≤ length (now out) ⌝ }
+    ensures { λ r. ⌜ Put (now (out .entry)) at (placedText choosing start end count) (now (out .exit)) r ⌝ }
+    ensures { λ r. ⌜ r ≤ at + 91 ⌝ }
+{
+    let a = put(out, at, b"placed");
+    let b = put_value(out, a, choosing);
+    let c = put_value(out, b, start);
+    let d = put_value(out, c, end);
+    let e = put_value(out, d, count as u64);
+    put(out, e, b"\n")
+}
+
+// `chosen CHOOSING none`.
+fn put_chosen(out: &mut [u8], at: usize, choosing: u64) -> usize
+    requires { ⌜ at + 91 ≤ length (now out) ⌝ }
+    ensures { λ r. ⌜ Put (now (out .entry)) at (chosenText choosing) (now (out .exit)) r ⌝ }
+    ensures { λ r. ⌜ r ≤ at + 91 ⌝ }
+{
+    let a = put(out, at, b"chosen");
+    let b = put_value(out, a, choosing);
+    put(out, b, b" none\n")
+}
+
+// The line of an answer.
+fn put_line(out: &mut [u8], at: usize, answer: Answer) -> usize
+    requires { ⌜ at + 91 ≤ length (now out) ⌝ }
+    ensures { λ r. ⌜ Put (now (out .entry)) at (lineText answer) (now (out .exit)) r ⌝ }
+    ensures { λ r. ⌜ r ≤ at + 91 ⌝ }
+{
+    match answer {
+        Answer::Nothing => at,
+        Answer::Placed(choosing, start, end, count) => put_placed(
+            out,
+            at,
+            choosing,
+            start,
+            end,
+            count,
+        ),
+        Answer::Chosen(choosing) => put_chosen(out, at, choosing),
+        Answer::None => record_diary_text::text(Line::None, out, at),
+        Answer::Committed => put(out, at, b"committed\n"),
+        Answer::Refused(n) => record_diary_text::text(Line::Refused(n), out, at),
+    }
+}
+
+// How many entries of the slate an answer speaks of.
+fn shown(answer: Answer) -> usize
+    ensures { λ r. ⌜ r ≡ shownOf answer ⌝ }
+{
+    match answer {
+        Answer::Nothing => 0,
+        Answer::Placed(choosing, start, end, count) => count,
+        Answer::Chosen(choosing) => 0,
+        Answer::None => 0,
+        Answer::Committed => 0,
+        Answer::Refused(n) => 0,
+    }
+}
+
+// Puts all that an answer prints, at most 2,251 bytes, into out from `at` on, and answers where it ends.
+pub fn text(answer: Answer, slate: &[[u64; 4]], out: &mut [u8], at: usize) -> usize
+    requires { ⌜ (shownOf answer ≤ length (now slate)) × (shownOf answer ≤ 24) × (at + 2251 ≤ length (now out)) ⌝ }
+    ensures { λ r. ⌜ Put (now (out .entry)) at (textOf answer (now (slate .entry))) (now (out .exit)) r ⌝ }
+    ensures { λ r. ⌜ r ≤ at + 2251 ⌝ }
+{
+    let end = put_line(out, at, answer);
+    put_entries(out, end, slate, shown(answer))
+}

@@ -1,0 +1,139 @@
+-- `record_queries::ask` meets its contract: one law for each kind.
+use borrow.Author.Needs.{needs}
+use native.Mathlib.Omega.{arith}
+use Rattle.record_queries.proofs.Asking.{asks-lasting, asks-setup, asks-journey, asks-serving, ask-40, ask-41, ask-42, ask-43}
+use Rattle.record_queries.proofs.ask.Statement.{statement}
+use Rattle.record_queries.proofs.ask.Tie as tie
+
+add-held-at : tie.Need-add-held-at
+add-held-at c = search needs
+
+held-at-requires : tie.Need-held-at-requires
+held-at-requires c κs = omega (arith, ask-40 (c .before .before .args .kind) (omega arith), c .before .before .pre .2)
+
+shared-slice-read-wide : tie.Need-shared-slice-read-wide
+shared-slice-read-wide c = omega (arith, ask-40 (c .before .before .before .before .args .kind) (omega arith), c .before .before .before .before .pre .2)
+
+wide-requires : tie.Need-wide-requires
+wide-requires c κs = search needs
+
+duration-on-requires : tie.Need-duration-on-requires
+duration-on-requires c κs = search needs
+
+lasting-requires : tie.Need-lasting-requires
+lasting-requires c κs = search needs
+
+returns : tie.Need-returns
+returns c = asks-lasting _ _ _ _ _ _ _ _ (omega arith) (c .before .before .wide .ensures .0) (c .before .before .before .before .held-at .ensures) (c .before .duration-on .ensures) (c .lasting .ensures)
+
+add-number : tie.Need-add-number
+add-number c = search needs
+
+number-requires : tie.Need-number-requires
+number-requires c κs = (omega arith, omega (arith, ask-41 (c .before .before .before .args .kind) (omega arith), c .before .before .before .pre .2))
+
+shared-slice-read-setup : tie.Need-shared-slice-read-setup
+shared-slice-read-setup c = omega (arith, ask-41 (c .before .before .before .before .before .args .kind) (omega arith), c .before .before .before .before .before .pre .2)
+
+add-setup : tie.Need-add-setup
+add-setup c = search needs
+
+shared-slice-read-setup-2 : tie.Need-shared-slice-read-setup-2
+shared-slice-read-setup-2 c = omega (arith, ask-41 (c .before .before .before .before .before .before .args .kind) (omega arith), c .before .before .before .before .before .before .pre .2)
+
+add-setup-2 : tie.Need-add-setup-2
+add-setup-2 c = search needs
+
+shared-slice-read-setup-3 : tie.Need-shared-slice-read-setup-3
+shared-slice-read-setup-3 c = omega (arith, ask-41 (c .before .before .before .before .before .before .before .args .kind) (omega arith), c .before .before .before .before .before .before .before .pre .2)
+
+setup-requires : tie.Need-setup-requires
+setup-requires c κs = search needs
+
+returns-2 : tie.Need-returns-2
+returns-2 c = asks-setup _ _ _ _ _ _ (omega arith) (c .before .before .before .before .number .ensures .0) (c .setup .ensures)
+
+number-requires-2 : tie.Need-number-requires-2
+number-requires-2 c κs = (omega arith, omega (arith, ask-42 (c .before .before .before .before .args .kind) (omega arith), c .before .before .before .before .pre .2))
+
+cast-origins : tie.Need-cast-origins
+cast-origins c = search needs
+
+add-transport : tie.Need-add-transport
+add-transport c = search needs
+
+shared-slice-read-transport : tie.Need-shared-slice-read-transport
+shared-slice-read-transport c = omega (arith, ask-42 (c .before .before .before .before .before .before .args .kind) (omega arith), c .before .before .before .before .before .before .pre .2)
+
+transport-requires : tie.Need-transport-requires
+transport-requires c κs = search needs
+
+returns-3 : tie.Need-returns-3
+returns-3 c = asks-journey _ _ _ _ _ _ (omega arith) (c .before .before .number2 .ensures .0) (c .transport .ensures)
+
+add-number-2 : tie.Need-add-number-2
+add-number-2 c = search needs
+
+number-requires-3 : tie.Need-number-requires-3
+number-requires-3 c κs = (omega arith, omega (arith, ask-43 (c .before .before .before .before .args .kind) (omega arith), c .before .before .before .before .pre .2))
+
+cast-candidates : tie.Need-cast-candidates
+cast-candidates c = search needs
+
+add-number-3 : tie.Need-add-number-3
+add-number-3 c = search needs
+
+number-requires-4 : tie.Need-number-requires-4
+number-requires-4 c κs = (omega arith, omega (arith, ask-43 (c .before .before .before .before .before .args .kind) (omega arith), c .before .before .before .before .before .pre .2))
+
+shared-slice-read-serves : tie.Need-shared-slice-read-serves
+shared-slice-read-serves c = omega (arith, ask-43 (c .before .before .before .before .before .before .before .args .kind) (omega arith), c .before .before .before .before .before .before .before .pre .2)
+
+add-serves : tie.Need-add-serves
+add-serves c = search needs
+
+shared-slice-read-serves-2 : tie.Need-shared-slice-read-serves-2
+shared-slice-read-serves-2 c = omega (arith, ask-43 (c .before .before .before .before .before .before .before .before .args .kind) (omega arith), c .before .before .before .before .before .before .before .before .pre .2)
+
+serves-requires : tie.Need-serves-requires
+serves-requires c κs = search needs
+
+returns-4 : tie.Need-returns-4
+returns-4 c = asks-serving _ _ _ _ _ _ _ (λ e. omega arith) (λ e. omega arith) (λ e. omega arith) (c .before .before .before .before .number3 .ensures .0) (c .before .before .before .number4 .ensures .0) (c .serves .ensures)
+
+pub ask-spec : {M : Type 1} → statement M
+ask-spec =
+    tie.close
+    (tie.spec
+    add-held-at
+    held-at-requires
+    shared-slice-read-wide
+    wide-requires
+    duration-on-requires
+    lasting-requires
+    returns
+    add-number
+    number-requires
+    shared-slice-read-setup
+    add-setup
+    shared-slice-read-setup-2
+    add-setup-2
+    shared-slice-read-setup-3
+    setup-requires
+    returns-2
+    number-requires-2
+    cast-origins
+    add-transport
+    shared-slice-read-transport
+    transport-requires
+    returns-3
+    add-number-2
+    number-requires-3
+    cast-candidates
+    add-number-3
+    number-requires-4
+    shared-slice-read-serves
+    add-serves
+    shared-slice-read-serves-2
+    serves-requires
+    returns-4)

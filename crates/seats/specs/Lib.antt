@@ -1,2 +1,0 @@
--- The places that the code keeps.
-pub mod Seats

@@ -1,2 +1,0 @@
--- Laws of numbers, for the proofs of this crate.
-pub mod Figures

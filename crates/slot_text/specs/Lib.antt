@@ -1,3 +1,0 @@
--- Document 01, 'Program slot': numbers and lines.
-pub mod Numbers
-pub mod Lines

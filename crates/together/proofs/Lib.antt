@@ -1,2 +1,0 @@
--- The proofs of several diaries together.
-pub mod Starting
