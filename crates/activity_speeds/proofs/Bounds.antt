@@ -15,7 +15,7 @@ use lib.Ieee.Exact.{HasValue, round-exact}
 use lib.Ieee.Order.{round-mono, drop, kept}
 use lib.Ieee.Positive.{num, den, positive, den-pos, own-value, value→cross, le→cross, between, mul-at}
 use lib.Ieee.Scale.{round-same}
-use Rattle.activity_speeds.specs.Speeds.{plain, UpTo, Within, isSpeed, one, quarter, four}
+use Rattle.activity_speeds.specs.Speeds.{plain, UpTo, WithinPower, isSpeed, one, quarter, four}
 
 -- a value a / c carries no sign
 plain-of-value : (x : Float) (a c : ℕ) → HasValue x false a c → T (plain x)
@@ -125,7 +125,7 @@ above-zero : (m u d p : ℕ) → 0 < d → d ≤ m * u * p → 0 < m
 above-zero zero u d p D h = absurd (lt-irrefl 0 (lt-of-lt-of-le D (le-trans h (le-of-eq (ap (λ (y : ℕ). y * p) (zero-mul u) ∙ zero-mul p)))))
 above-zero (suc m) u d p D h = zero-lt-suc m
 
-pub within-positive : (k : ℕ) (x : Float) → Within k x → T (positive x)
+pub within-positive : (k : ℕ) (x : Float) → WithinPower k x → T (positive x)
 within-positive k nan w = absurd (w .flat)
 within-positive k (inf s) w = absurd (w .flat)
 within-positive k (fin true m e) w = absurd (w .flat)
@@ -141,7 +141,7 @@ four-pos : (k : ℕ) → 0 < 4 ^ k
 four-pos k = one-le-pow k 4 (zero-lt-suc 3)
 
 -- the quotient of a whole number B at most by a value from 4 ^ -k
-pub div-up-to : (base B k : ℕ) (y : Float) → base ≤ B → B * 4 ^ k ≤ 2 ^ 53 → Within k y → UpTo (B * 4 ^ k) (div binary64 (ofInt binary64 (pos base)) y)
+pub div-up-to : (base B k : ℕ) (y : Float) → base ≤ B → B * 4 ^ k ≤ 2 ^ 53 → WithinPower k y → UpTo (B * 4 ^ k) (div binary64 (ofInt binary64 (pos base)) y)
 div-up-to base B k y h small w =
     let P : T (positive y) = within-positive k y w in
     let b53 : base ≤ 2 ^ 53 = le-trans (le-trans h (grow B (4 ^ k) (four-pos k))) small in
@@ -181,7 +181,7 @@ lift zero d a b p D e h = absurd (lt-irrefl 0 (lt-of-lt-of-le D (le-of-eq (sym (
 lift (suc n) d a b p D e h =
     le-of-mul-le-mul-left (le-trans h (le-of-eq (ap (λ (y : ℕ). a * y) (sym (one-mul d) ∙ sym e) ∙ mul-left-comm a (suc n) p))) (zero-lt-suc n)
 
-pub within-mul : (k j : ℕ) (x y : Float) → k + j ≤ 26 → Within k x → Within j y → Within (k + j) (mul binary64 x y)
+pub within-mul : (k j : ℕ) (x y : Float) → k + j ≤ 26 → WithinPower k x → WithinPower j y → WithinPower (k + j) (mul binary64 x y)
 within-mul k j x y K v w =
     let p : T (positive x) = within-positive k x v in
     let q : T (positive y) = within-positive j y w in
@@ -197,7 +197,7 @@ within-mul k j x y K v w =
     let u : UpTo N z = round-up-to binary64 a c N C (four-le (k + j) K) hi in
     let g : HasValue o false 1 N = low-value (k + j) K in
     let l : T (le o z) = round-mono binary64 1 N a c (four-pos (k + j)) C (le-trans (le-of-eq (one-mul c)) lo) in
-    subst (λ (m : Float). Within (k + j) m) (sym is)
+    subst (λ (m : Float). WithinPower (k + j) m) (sym is)
     (record {
       flat = u .flat;
       above = lift (num o) (den o) (num z) (den z) N (den-pos o) (value→cross o 1 N g) (le-cross o z (plain-of-value o 1 N g) (u .flat) l);
@@ -205,7 +205,7 @@ within-mul k j x y K v w =
     })
 
 -- a speed, and 1.0
-pub within-more : (k j : ℕ) (x : Float) → k ≤ j → Within k x → Within j x
+pub within-more : (k j : ℕ) (x : Float) → k ≤ j → WithinPower k x → WithinPower j x
 within-more k j x h w = record {
   flat = w .flat;
   above = le-trans (w .above) (mul-le-mul-left (num x) (pow-le-pow-right (zero-lt-suc 3) h));
@@ -218,7 +218,7 @@ positive-plain (inf s) p = absurd p
 positive-plain (fin true m e) p = absurd p
 positive-plain (fin false m e) p = tt
 
-pub speed-within : (x : Float) → T (isSpeed x) → Within 1 x
+pub speed-within : (x : Float) → T (isSpeed x) → WithinPower 1 x
 unfolding isSpeed
 speed-within x h =
     let lo : T (le quarter x) = and-l (le quarter x) (le x four) h in
@@ -228,5 +228,5 @@ speed-within x h =
     let b : num x * 1 ≤ 4 * den x = le→cross x four p tt hi in
     record { flat = positive-plain x p; above = le-trans (le-of-eq (sym (one-mul (den x)))) a; below = le-trans (le-of-eq (sym (mul-one (num x)))) b }
 
-pub one-within : Within 0 one
+pub one-within : WithinPower 0 one
 one-within = record { flat = tt; above = lit≤ tt; below = lit≤ tt }

@@ -44,13 +44,13 @@ same-parts m n (negsuc a) (negsuc b) o p h =
     (r .0, ap negsuc (suc-inj (sym (r .1))))
 
 -- what `calendar_fits` says of a value above 0
-pub record Held (f : Format) (m : ℕ) (e : ℤ) : Type 0 where
+pub record Representable (f : Format) (m : ℕ) (e : ℤ) : Type 0 where
   pub odd : m % 2 ≡ 1
   pub few : m < 2 ^ prec f
   pub deep : down e ≤ 2 ^ low f
   pub high : m * up e < 2 ^ suc (emax f) * down e
 
-pub held : (f : Format) (s : Bool) (m : ℕ) (e : ℤ) → 0 < m → T (fits f (fin s m e)) → Held f m e
+pub held : (f : Format) (s : Bool) (m : ℕ) (e : ℤ) → 0 < m → T (fits f (fin s m e)) → Representable f m e
 unfolding fits
 held f s zero e h t = absurd (lt-irrefl 0 h)
 held f s (suc m) e h t =
@@ -93,7 +93,7 @@ place l m (negsuc a) h =
     join : (a l : ℕ) → suc a ≤ l → l ≡ l - suc a + suc a
     join a l h = omega arith
 
-own-round : (f : Format) (m : ℕ) (e : ℤ) → Held f m e → HasValue (round f false (m * up e) (down e)) false (m * up e) (down e)
+own-round : (f : Format) (m : ℕ) (e : ℤ) → Representable f m e → HasValue (round f false (m * up e) (down e)) false (m * up e) (down e)
 own-round f m e h =
     let k = place (low f) m e (h .deep) in
     round-exact f false (m * up e) (down e) m (k .0) (down-pos e) (h .few)

@@ -16,7 +16,7 @@ use lib.Ieee.Nearest.{closest}
 use lib.Ieee.Order.{drop, kept}
 use lib.Ieee.Positive.{num, den, positive, den-pos}
 use lib.Ieee.Scale.{grid, finite, round-val, round-under}
-use Rattle.activity_speeds.specs.Speeds.{plain, UpTo, Within, halfUp, roundAway, isSpeed, one, processAt, scaled, Near}
+use Rattle.activity_speeds.specs.Speeds.{plain, UpTo, WithinPower, halfUp, roundAway, isSpeed, one, processAt, scaled, Near}
 use Rattle.activity_speeds.proofs.Rounding.{half-up-bounds, away-of-value, up-to-finite}
 use Rattle.activity_speeds.proofs.Identity.{held}
 use Rattle.activity_speeds.proofs.Bounds.{within-positive, speed-within, num-pos, div-at, div-up-to, whole-value}
@@ -139,7 +139,7 @@ exact-at m k h =
 small-exp : (m p : ℕ) → m < 2 ^ 53 → p ≤ m * 1 * 4 → p < 2 ^ 55
 small-exp m p h k = omega arith
 
-scaled-exact : (s : Float) → T (fits binary64 s) → Within 1 s → scaled s * den s ≡ num s * 2 ^ 54
+scaled-exact : (s : Float) → T (fits binary64 s) → WithinPower 1 s → scaled s * den s ≡ num s * 2 ^ 54
 unfolding scaled
 scaled-exact nan F w = absurd (w .flat)
 scaled-exact (inf t) F w = absurd (w .flat)
@@ -180,7 +180,7 @@ near-of base s r p e h = record {
 off-same : (r c a : ℕ) → r * c ≡ a → Off r c a
 off-same r c a e = record { over = omega arith; short = omega arith }
 
-quotient-off : (base : ℕ) (s : Float) → base ≤ 2 ^ 36 → Within 1 s → Off (roundAway (div binary64 (ofInt binary64 (pos base)) s)) (num s) (base * den s)
+quotient-off : (base : ℕ) (s : Float) → base ≤ 2 ^ 36 → WithinPower 1 s → Off (roundAway (div binary64 (ofInt binary64 (pos base)) s)) (num s) (base * den s)
 quotient-off base s h w =
     let P : T (positive s) = within-positive 1 s w in
     let q = div binary64 (ofInt binary64 (pos base)) s in
@@ -199,10 +199,10 @@ quotient-off base s h w =
 pub process-near : (base : ℕ) (s : Float) → base ≤ 2 ^ 36 → T (fits binary64 s) → T (isSpeed s) → Near base s (processAt base s)
 unfolding processAt
 process-near base s h F k =
-    let w : Within 1 s = speed-within s k in
+    let w : WithinPower 1 s = speed-within s k in
     go (eq s one) (eq-one s (w .flat)) w
   where
-    go : (b : Bool) → (T b → num s ≡ den s) → Within 1 s → Near base s (cond b base (roundAway (div binary64 (ofInt binary64 (pos base)) s)))
+    go : (b : Bool) → (T b → num s ≡ den s) → WithinPower 1 s → Near base s (cond b base (roundAway (div binary64 (ofInt binary64 (pos base)) s)))
     go true e w = near-of base s base (w .flat) (scaled-exact s F w) (off-same base (num s) (base * den s) (ap (λ (y : ℕ). base * y) (e tt)))
     go false e w = near-of base s (roundAway (div binary64 (ofInt binary64 (pos base)) s)) (w .flat) (scaled-exact s F w) (quotient-off base s h w)
 
@@ -220,7 +220,7 @@ away-le N nan u = absurd (u .flat)
 away-le N (inf s) u = absurd (u .flat)
 away-le N (fin s m e) u = half-up-le (m * up e) (down e) N (down-pos e) (u .below)
 
-pub process-le : (base : ℕ) (s : Float) → base ≤ 2 ^ 36 → Within 8 s → processAt base s ≤ 2 ^ 52
+pub process-le : (base : ℕ) (s : Float) → base ≤ 2 ^ 36 → WithinPower 8 s → processAt base s ≤ 2 ^ 52
 unfolding processAt
 process-le base s h w = go (eq s one)
   where

@@ -60,7 +60,7 @@ pub record UpTo (n : ℕ) (x : Float) : Type 0 where
   pub below : num x ≤ n * den x
 
 -- x is a number from 4 ^ -k to 4 ^ k, as a product of k speeds is
-pub record Within (k : ℕ) (x : Float) : Type 0 where
+pub record WithinPower (k : ℕ) (x : Float) : Type 0 where
   pub flat : T (plain x)
   pub above : den x ≤ num x * 4 ^ k
   pub below : num x ≤ 4 ^ k * den x

@@ -2,7 +2,7 @@
 // quotient of the Rust's `timed_duration` in models/activity.rs).
 ghost use mathlib.Core.Path.{_≡_};
 ghost use Prim.Native.Nat.{_≤_, _^_};
-ghost use Rattle.activity_speeds.specs.Speeds.{roundAway, isSpeed, processAt, UpTo, Within};
+ghost use Rattle.activity_speeds.specs.Speeds.{roundAway, isSpeed, processAt, UpTo, WithinPower};
 
 const SIGN: u64 = 9223372036854775808;
 
@@ -37,7 +37,7 @@ fn round_half_away(x: f64) -> u64
 // The process time at a product of up to eight speeds.
 pub fn process_at(base: u64, speed: f64) -> u64
     requires { ⌜ base ≤ 2 ^ 36 ⌝ }
-    requires { ⌜ Within 8 speed ⌝ }
+    requires { ⌜ WithinPower 8 speed ⌝ }
     ensures { λ r. ⌜ r ≡ processAt base speed ⌝ }
 {
     if speed == 1.0 {

@@ -6,4 +6,6 @@ pub mod Valid
 pub mod Transport
 pub mod Places
 pub mod Enter
-pub mod Runs
+-- What the definitions amount to, and the laws behind it.
+pub mod Theorems
+pub mod Laws

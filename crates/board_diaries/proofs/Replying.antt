@@ -10,7 +10,7 @@ use Rattle.board.specs.Resources.{resourceAt, lookup, onBoard}
 use Rattle.board.specs.Valid.{valid}
 use Rattle.board.specs.declared.Board.{Board}
 use Rattle.board_numbers.specs.declared.PlaceFor.{PlaceFor}
-use Rattle.board.proofs.Replying.{refused-by}
+use Rattle.board.specs.Laws.Replying.{refused-by}
 use Rattle.board_numbers.proofs.Finding.{entry-refusal}
 use Rattle.timeline.specs.declared.ResourceTimeline.{ResourceTimeline}
 use Rattle.timeline.specs.Valid as timeline

@@ -13,7 +13,7 @@ use Rattle.board.specs.Resources.{resourceAt, lookup, onBoard}
 use Rattle.board.specs.Valid.{durationRight, entryRight, valid}
 use Rattle.board.specs.declared.Board.{Board}
 use Rattle.board.specs.declared.TransitionMatrix.{TransitionMatrix}
-use Rattle.board.proofs.Replying.{refused-by, taken-by}
+use Rattle.board.specs.Laws.Replying.{refused-by, taken-by}
 use Rattle.board_numbers.proofs.Finding.{entry-refusal}
 use Rattle.board_numbers.specs.declared.PlaceFor.{PlaceFor}
 use Rattle.board_numbers.specs.Entry.{entryFor}

@@ -8,8 +8,8 @@ use Rattle.board.specs.Places.{placeOf}
 use Rattle.board.specs.Resources.{lookup, onBoard}
 use Rattle.board.specs.Valid.{valid}
 use Rattle.board.specs.declared.Board.{Board}
-use Rattle.board.proofs.Facts.{rules, off-above}
-use Rattle.board.proofs.Seeing.{lookup-below}
+use Rattle.board.specs.Laws.Facts.{rules, off-above}
+use Rattle.board.specs.Laws.Seeing.{lookup-below}
 use Rattle.board_numbers.specs.declared.PlaceFor.{PlaceFor}
 use Rattle.board_numbers.specs.Entry.{entryAt, entryFor}
 

@@ -14,8 +14,8 @@ use Rattle.calendar.specs.Search.{isAt}
 use Rattle.board.specs.Resources.{onBoard}
 use Rattle.board.specs.Valid.{valid}
 use Rattle.board.specs.declared.Board.{Board}
-use Rattle.board.proofs.Facts.{rules, off-above}
-use Rattle.board.proofs.Seeing.{place-on}
+use Rattle.board.specs.Laws.Facts.{rules, off-above}
+use Rattle.board.specs.Laws.Seeing.{place-on}
 
 off : (b : Board) (n : ℕ) → valid b ≡ true → 16 ≤ n → onBoard b n ≡ false
 unfolding isAt

@@ -9,12 +9,12 @@ use Rattle.calendar.specs.Search.{leastFrom, isAt}
 use Rattle.board.specs.Resources.{numberAt, lookupTo, onBoard}
 use Rattle.board.specs.Valid.{valid}
 use Rattle.board.specs.declared.Board.{Board}
-use Rattle.board.proofs.Facts.{resource-number, Rules, rules}
-use Rattle.board.proofs.Counts.{countTo, count-none, count-more, count-short}
-use Rattle.board.proofs.Seeing.{lookup-here, lookup-there}
+use Rattle.board.specs.Laws.Facts.{resource-number, BoardRules, rules}
+use Rattle.board.specs.Laws.Counts.{countTo, count-none, count-more, count-short}
+use Rattle.board.specs.Laws.Seeing.{lookup-here, lookup-there}
 
 -- each of the first i resources has a number of its own
-held-len : (b : Board) → Rules b → (i : ℕ) → i ≤ b .len → countTo (λ n. isAt (lookupTo b i n)) 16 ≡ i
+held-len : (b : Board) → BoardRules b → (i : ℕ) → i ≤ b .len → countTo (λ n. isAt (lookupTo b i n)) 16 ≡ i
 unfolding lookupTo leastFrom isAt
 held-len b r zero l = count-none (λ n. isAt (lookupTo b 0 n)) (λ k. refl) 16
 held-len b r (suc i) l =

@@ -22,12 +22,12 @@ use Rattle.board.specs.declared.TransitionMatrix.{TransitionMatrix}
 use Rattle.board_numbers.proofs.Standing.{on-small}
 use Rattle.cells.specs.Every.{every, everyFrom}
 use Rattle.cells.specs.Laws.Every.{every-in, from-at, from-all}
-use Rattle.board.proofs.Facts.{rules, ruled}
-use Rattle.board.proofs.Meaning.{resource-rules}
+use Rattle.board.specs.Laws.Facts.{rules, ruled}
+use Rattle.board.specs.Theorems.Meaning.{resource-rules}
 use Rattle.board_resources.proofs.Replying.{add-taken}
 use Rattle.board_transport.proofs.Replying.{transport-taken}
-use Rattle.board.proofs.Keeping.{lookup-same, widened, changed-keeps}
-use Rattle.board.proofs.Seeing.{lookup-more}
+use Rattle.board.specs.Laws.Keeping.{lookup-same, widened, changed-keeps}
+use Rattle.board.specs.Laws.Seeing.{lookup-more}
 use Rattle.timeline.specs.declared.ResourceTimeline.{ResourceTimeline}
 use Rattle.timeline.specs.Valid as timeline
 
@@ -81,13 +81,13 @@ set-every xs k n z h e =
     (λ (l : length xs ≤ k). rw (set-out xs k z l) h)
     (lt-or-ge k (length xs))
 
-record Parts (m : TransitionMatrix) : Type 0 where
+record MatrixParts (m : TransitionMatrix) : Type 0 where
   first : durationRight (m .default) ≡ true
   second : durationRight (m .initial) ≡ true
   pairs : everyFrom (λ i. entryRight (getD (m .transitions) i (pos 0))) 0 256 ≡ true
   firsts : everyFrom (λ i. entryRight (getD (m .initials) i (pos 0))) 0 16 ≡ true
 
-parts : (m : TransitionMatrix) → m .present ≡ true → matrixRight m ≡ true → Parts m
+parts : (m : TransitionMatrix) → m .present ≡ true → matrixRight m ≡ true → MatrixParts m
 unfolding matrixRight
 parts m p h =
     let g = rw p at h in

@@ -9,14 +9,14 @@ use lib.ListN.{getD}
 use lib.Dec.{eqb}
 use borrow.Author.Tests.{eqb-true}
 use Rattle.cells.specs.Laws.Basics.{and-split, lt-or-ge}
-use Rattle.timeline.proofs.Rules as timeline
+use Rattle.timeline.specs.Laws.Rules as timeline
 use Rattle.board.specs.declared.Board.{Board}
 use Rattle.board.specs.declared.Resource.{Resource}
 use Rattle.board.specs.Resources.{resourceAt}
 use Rattle.board.specs.Places.{Known, Lengths}
 use Rattle.board.specs.Valid.{valid, companionsRight, resourceBlank, diaryBlank}
-use Rattle.board.proofs.Facts.{rules}
-use Rattle.board.proofs.Meaning.{resource-of}
+use Rattle.board.specs.Laws.Facts.{rules}
+use Rattle.board.specs.Theorems.Meaning.{resource-of}
 
 blank-len : (r : Resource) → resourceBlank r ≡ true → r .timeline .len ≡ 0
 unfolding resourceBlank diaryBlank

@@ -1,8 +1,8 @@
 // The entry of a transport between two resources of a board (models/resource.rs; 01, 'Board entries').
 use board::Board;
 use board::Entered;
-use calendar::limits::LONGEST_DURATION;
 use board_numbers::is_on;
+use calendar::limits::LONGEST_DURATION;
 ghost use mathlib.Core.Path.{_≡_};
 ghost use Rattle.board.specs.Enter.{transportRefusal, setTransportReply};
 

@@ -1,7 +1,9 @@
--- The least instant at which a test passes: the one search that every 'least' of document 01 is; and the greatest of a list.
-use Prim.Native.Nat.{ℕ, zero, suc, max}
+-- The least instant at which a test passes: the one search that every 'least' of document 01 is, and what it is to be the least; and the
+-- greatest of a list.
+use Prim.Native.Nat.{ℕ, zero, suc, max, _≤_, _<_}
 use mathlib.Core.Bool.{Bool, true, false}
 use mathlib.Core.List.{List, [], _∷_}
+use mathlib.Core.Path.{_≡_}
 
 -- an instant, or 01's 'none' and 'nothing'
 pub data Found : Type 0 where
@@ -27,3 +29,14 @@ leastFrom P from (suc n) = elim (P from) [ true ↦ at from | false ↦ leastFro
 unfoldable pub greatestOf : List ℕ → ℕ
 greatestOf [] = 0
 greatestOf (x ∷ xs) = max x (greatestOf xs)
+
+-- s is the least instant at or after `from` at which P holds
+pub record Earliest (P : ℕ → Bool) (from s : ℕ) : Type 0 where
+  pub low : from ≤ s
+  pub holds : P s ≡ true
+  pub first : (x : ℕ) → from ≤ x → x < s → P x ≡ false
+
+-- the least instant at or after `from` at which P holds, and nothing only if it holds at none, however late
+abbrev pub Answers : (ℕ → Bool) → ℕ → Found → Type 0
+Answers P from nothing = (x : ℕ) → from ≤ x → P x ≡ false
+Answers P from (at s) = Earliest P from s

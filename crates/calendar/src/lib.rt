@@ -71,7 +71,7 @@ pub fn is_valid(c: Calendar) -> bool
 }
 
 // The refusal of a span that is to be added to a list of `held`, 0 for none.
-fn refusal_of(c: Calendar, held: usize, start: u64, end: u64) -> u8
+fn span_refusal(c: Calendar, held: usize, start: u64, end: u64) -> u8
     ensures { λ r. ⌜ r ≡ addRefusal c held start end ⌝ }
 {
     if !is_valid(c) {
@@ -127,7 +127,7 @@ impl Calendar {
         ensures { λ r. ⌜ (valid self ≡ true → valid (r .calendar) ≡ true) ⌝ }
     {
         let windows = self.windows;
-        let refusal = refusal_of(self, windows.len, start, end);
+        let refusal = span_refusal(self, windows.len, start, end);
         if refusal != 0 {
             return Added {
                 refusal: refusal,
@@ -151,7 +151,7 @@ impl Calendar {
         ensures { λ r. ⌜ (valid self ≡ true → valid (r .calendar) ≡ true) ⌝ }
     {
         let blocks = self.blocks;
-        let refusal = refusal_of(self, blocks.len, start, end);
+        let refusal = span_refusal(self, blocks.len, start, end);
         if refusal != 0 {
             return Added {
                 refusal: refusal,

@@ -10,7 +10,7 @@ use borrow.Author.Tests.{lt-leb}
 use Rattle.calendar.specs.declared.Calendar.{Calendar}
 use Rattle.cells.specs.Laws.Basics.{lt-or-ge, not-both}
 use Rattle.calendar.specs.Work.{joint, workEnd, lastChange, jointEnd}
-use Rattle.calendar.specs.WorkEnds.{Changeless, work-end-same, joint-changeless}
+use Rattle.calendar.specs.Laws.WorkEnds.{Changeless, work-end-same, joint-changeless}
 use Rattle.cells.specs.Cells.{before, passed, Before}
 use Rattle.calendar_work.specs.Layout.{odd, laid, Edges, Layout}
 use Rattle.cells.proofs.Passing.{passed-all}

@@ -12,9 +12,9 @@ use Rattle.cells.specs.Laws.Basics.{unrefused, same-or-not}
 use Rattle.cells.specs.Every.{every, Each}
 use Rattle.board.specs.declared.Board.{Board}
 use Rattle.board.specs.Valid as board
-use Rattle.board.proofs.Replying.{refused-by, taken-by}
-use Rattle.scheduler.specs.Committing.{Line, linesOf, linesRefusal, commitRefusal, bookAll, commitReply}
-use Rattle.scheduler.specs.Committed.{Bookable, Right, Room, allOn, allMetered, allRoomy, passed, room-passed, all-fine}
+use Rattle.board.specs.Laws.Replying.{refused-by, taken-by}
+use Rattle.scheduler.specs.Committing.{Line, linesOf, linesRefusal, commitRefusal, bookAll, commitReply, Bookable}
+use Rattle.scheduler.specs.Laws.Committed.{BookableLine, Room, allOn, allMetered, allRoomy, passed, room-passed, all-fine}
 
 -- a check that the code made, and what it is a check of
 pub check-passed : (r p q : Bool) → r ≡ p → p ≡ q → not r ≡ false → q ≡ true
@@ -67,7 +67,7 @@ pub record Fine (b : Board) (slate : List (List ℕ)) (count start end category 
   pub valid : board.valid b ≡ true
   pub enough : count ≤ length slate
   pub bookable : 0 < count → Bookable start end category
-  pub right : Each (Right b) (linesOf count slate)
+  pub right : Each (BookableLine b) (linesOf count slate)
   pub room : Room b (linesOf count slate)
 
 module _ (b : Board) (slate : List (List ℕ)) (count start end category : ℕ) where

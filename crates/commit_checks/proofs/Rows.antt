@@ -16,11 +16,11 @@ use Rattle.board.specs.declared.Board.{Board}
 use Rattle.calendar.specs.Search.{isAt}
 use Rattle.board.specs.Resources.{onBoard}
 use Rattle.board.specs.Valid.{valid}
-use Rattle.board.proofs.Facts.{rules}
+use Rattle.board.specs.Laws.Facts.{rules}
 use Rattle.scheduler.specs.Alone.{diaryOf}
 use Rattle.scheduler.specs.Committing.{Line, lineOf, linesOf, entriesOn}
-use Rattle.scheduler.specs.Ruled.{diary-at}
-use Rattle.board.proofs.Knowing.{place-of, number-place}
+use Rattle.scheduler.specs.Laws.Ruled.{diary-at}
+use Rattle.board.specs.Laws.Knowing.{place-of, number-place}
 use Rattle.board.specs.Places.{Known, Lengths}
 use Rattle.commit_checks.specs.Lines.{numbered, metered, roomy, Counted}
 

@@ -20,15 +20,15 @@ use Rattle.board.specs.Resources.{resourceAt, lookup}
 use Rattle.board.specs.Places.{placeOf, Known}
 use Rattle.board.specs.Valid as board
 use Rattle.board.specs.Enter.{withResource, changed}
-use Rattle.board.proofs.Facts.{rules}
-use Rattle.board.proofs.Meaning.{resource-of}
+use Rattle.board.specs.Laws.Facts.{rules}
+use Rattle.board.specs.Theorems.Meaning.{resource-of}
 use Rattle.scheduler.specs.Alone.{diaryOf}
-use Rattle.scheduler.specs.Committing.{Line, lineOf, linesOf, entriesOn, lastAfter, booked, bookAll}
-use Rattle.scheduler.specs.Committed.{Bookable, Right, Room, step-long, lookup-after, after-keeps, right-after, room-after}
+use Rattle.scheduler.specs.Committing.{Line, lineOf, linesOf, entriesOn, lastAfter, booked, bookAll, Bookable}
+use Rattle.scheduler.specs.Laws.Committed.{BookableLine, Room, step-long, lookup-after, after-keeps, right-after, room-after}
 use Rattle.cells.specs.Every.{Each}
 use Rattle.cells.specs.Laws.Each.{each-weaken, each-first, each-rest}
-use Rattle.scheduler.specs.Ruled.{diary-at}
-use Rattle.board.proofs.Knowing.{number-place}
+use Rattle.scheduler.specs.Laws.Ruled.{diary-at}
+use Rattle.board.specs.Laws.Knowing.{number-place}
 
 -- a booking that is not refused
 pub book-taken : (t : ResourceTimeline) (start end category u : ℕ) → timeline.valid t ≡ true → t .len < 64 → Bookable start end category → 1 ≤ u → u ≤ 10000
@@ -90,7 +90,7 @@ pub record Ahead (start end category : ℕ) (places : List ℕ) (whole b : Board
   pub long : length (b .resources) ≡ 16
   pub valid : board.valid b ≡ true
   pub known : Known b places
-  pub right : Each (Right b) ls
+  pub right : Each (BookableLine b) ls
   pub room : Room b ls
   pub same : bookAll start end category ls b ≡ whole
 
@@ -116,8 +116,8 @@ module _ (start end category : ℕ) (places : List ℕ) (whole b : Board) (l : L
   abbrev place : ℕ
   place = getD places (l .number) 0
 
-  mine : Right b l
-  mine = each-first (Right b) l ls (a .right)
+  mine : BookableLine b l
+  mine = each-first (BookableLine b) l ls (a .right)
 
   has-room : diaryOf b (l .number) .len < 64
   unfolding entriesOn
@@ -150,7 +150,7 @@ module _ (start end category : ℕ) (places : List ℕ) (whole b : Board) (l : L
       long = step-long start end category b l (lookup b (l .number)) ∙ a .long;
       valid = after-keeps start end category w b (a .long) (a .valid) l mine has-room;
       known = λ n m. a .known n m ∙ sym (ap placeOf (lookup-after start end category w b (a .long) (a .valid) l mine n));
-      right = each-weaken (Right b) (Right after) ls (right-after start end category w b (a .long) (a .valid) l mine) (each-rest (Right b) l ls (a .right));
+      right = each-weaken (BookableLine b) (BookableLine after) ls (right-after start end category w b (a .long) (a .valid) l mine) (each-rest (BookableLine b) l ls (a .right));
       room = room-after start end category w b (a .long) (a .valid) l mine ls (a .room);
       same = a .same;
     }

@@ -13,8 +13,7 @@ ghost use Rattle.calendar.specs.Limits.{mostUnits};
 ghost use Rattle.timeline.specs.Valid as timeline;
 ghost use Rattle.board.specs.declared.Board as declared;
 ghost use Rattle.board.specs.Valid.{valid};
-ghost use Rattle.scheduler.specs.Committing.{booked, commitRefusal, commitReply};
-ghost use Rattle.scheduler.specs.Committed.{Bookable};
+ghost use Rattle.scheduler.specs.Committing.{booked, commitRefusal, commitReply, Bookable};
 ghost use Rattle.board.specs.Places.{Known, Lengths};
 
 // The resource with a booking more; one with a matrix takes the category, unless it is a companion.
@@ -46,7 +45,14 @@ fn book_on(r: Resource, start: u64, end: u64, category: u8, units: u32, companio
 }
 
 // The refusal of a commitment, 0 for none: 15 a board that breaks the rules; no entries: none; 7 a count above the slate; then the rows'.
-fn refusal_of(p: Places, slate: &[[u64; 4]], count: usize, start: u64, end: u64, category: u8) -> u8
+fn commit_refusal(
+    p: Places,
+    slate: &[[u64; 4]],
+    count: usize,
+    start: u64,
+    end: u64,
+    category: u8,
+) -> u8
     requires { ⌜ (p .right ≡ true → (k : ℕ) → k < 16 → getD (p .lens) k 0 ≤ 64) ⌝ }
     ensures { λ r. ⌜ ((b : declared.Board) → p .right ≡ valid b → (valid b ≡ true → Known b (p .places) × Lengths b (p .lens)) → r ≡ commitRefusal b (now (slate .entry)) count start end category) ⌝ }
 {
@@ -77,7 +83,7 @@ pub fn commit(
     ensures { λ r. ⌜ r ≡ commitReply b (now (slate .entry)) count start end category ⌝ }
 {
     let p = board_rules::places_of(b);
-    let refusal = refusal_of(p, slate, count, start, end, category);
+    let refusal = commit_refusal(p, slate, count, start, end, category);
     if refusal != 0 {
         return Entered {
             refusal: refusal,

@@ -1,14 +1,20 @@
 // Places and commits orders on a board, by a stream of records on standard input, and writes the answers (docs/RECORDS.md, kinds 1 to 4
 // and 16 to 26). It only reads and writes; what a record does is in `record_offer`, what it prints in `record_offer_text`.
 use record_desk::Desk;
-use record_offer::Answer;
-use record_offer::Turn;
+use record_offer::OfferAnswer;
+use record_offer::OfferTurn;
 use record_streams::Input;
 ghost use Prim.Native.Nat.{_+_, _≤_};
 ghost use Rattle.record_offer.specs.Offers.{shown};
 
 // The next record.
-fn next(desk: Desk, slate: &mut [[u64; 4]; 24], buf: &[u8; 65536], at: usize, len: usize) -> Turn
+fn next(
+    desk: Desk,
+    slate: &mut [[u64; 4]; 24],
+    buf: &[u8; 65536],
+    at: usize,
+    len: usize,
+) -> OfferTurn
     requires { ⌜ (at ≤ len) × (len ≤ 65536) ⌝ }
     ensures { λ r. ⌜ (r .at ≤ len) × (shown (r .answer) ≤ 24) ⌝ }
 {
@@ -16,7 +22,7 @@ fn next(desk: Desk, slate: &mut [[u64; 4]; 24], buf: &[u8; 65536], at: usize, le
 }
 
 // Puts what an answer prints behind what waits.
-fn print(answer: Answer, slate: &[[u64; 4]; 24], out: &mut [u8; 65536], used: usize) -> usize
+fn print(answer: OfferAnswer, slate: &[[u64; 4]; 24], out: &mut [u8; 65536], used: usize) -> usize
     requires { ⌜ (shown answer ≤ 24) × (used + 2251 ≤ 65536) ⌝ }
     ensures { λ r. ⌜ r ≤ 65536 ⌝ }
 {

@@ -20,15 +20,16 @@ use Rattle.board.specs.declared.Resource.{Resource}
 use Rattle.board.specs.declared.Board.{Board}
 use Rattle.board.specs.Resources.{resourcesOf, resourceAt, onBoard}
 use Rattle.board.specs.Valid.{valid}
-use Rattle.board.proofs.Facts.{rules}
-use Rattle.board.proofs.Meaning.{resource-of}
+use Rattle.board.specs.Laws.Facts.{rules}
+use Rattle.board.specs.Theorems.Meaning.{resource-of}
 use Rattle.scheduler.specs.Alone.{Share, oneUnit, earliestOf, companionsOf, withCompanions, spanAlone, arrival, startWith, startAlone}
 use Rattle.scheduler.specs.Fitting.{among}
-use Rattle.scheduler.specs.Shares.{startOn, noShare}
-use Rattle.scheduler.specs.Events.{events, above, above-le, among-right}
-use Rattle.scheduler.specs.Together.{Sound}
-use Rattle.scheduler.specs.Ruled.{eventsOn, place-event, all-seated, seated-sound, points}
-use Rattle.scheduler.specs.Asking.{nextAsked, Asked, asked-start, asked-on, asked-none, asked-listed, asked-less, asked-all}
+use Rattle.scheduler.specs.Shares.{startOn, noShare, nextAsked}
+use Rattle.scheduler.specs.Instants.{events, above, eventsOn, points}
+use Rattle.scheduler.specs.Laws.Events.{above-le, among-right}
+use Rattle.scheduler.specs.Laws.Together.{Sound}
+use Rattle.scheduler.specs.Laws.Ruled.{place-event, all-seated, seated-sound}
+use Rattle.scheduler.specs.Laws.Asking.{Asked, asked-start, asked-on, asked-none, asked-listed, asked-less, asked-all}
 use Rattle.place_plans.specs.declared.Plan.{Plan}
 use Rattle.place_plans.specs.Plans.{planWith, planOf}
 use Rattle.board.specs.Places.{Known}
@@ -58,14 +59,14 @@ module _ (b : Board) (a : Activity) (ready i t : ℕ) (q : ResourceRequirement) 
   from = max t (arrival b a ready r)
 
   -- the asking of the resource at place i for a requirement, from t on
-  pub record Going (g : Asking) : Type 0 where
+  pub record AskedTo (g : Asking) : Type 0 where
     pub few : g .next ≤ r .count
     pub soon : g .start ≤ 2 ^ 43
     pub so : every (onBoard b) (companionsOf r) ≡ true → Asked (a .resumable) (spanAlone a r) those from (max from (g .start)) (g .next)
 
   -- after an answer: it goes on or is over, and fewer instants or members are left
   pub record Told (g h : Asking) : Type 0 where
-    pub on : h .next ≤ r .count → Going h
+    pub on : h .next ≤ r .count → AskedTo h
     pub found : r .count < h .next → h .start ≡ numberOf (foundAt b a ready q t i)
     pub low : t ≤ h .start
     pub less : above (points b a ready) (h .start) * 32 + (5 - h .next) < above (points b a ready) (g .start) * 32 + (5 - g .next)
@@ -77,10 +78,10 @@ module _ (b : Board) (a : Activity) (ready i t : ℕ) (q : ResourceRequirement) 
     pub whole : length (r .companions) ≡ 4
     pub some : 1 ≤ q .usage
     pub plan : p ≡ planOf b a ready r
-    pub go : Going g
+    pub go : AskedTo g
 
   module _ (v : valid b ≡ true) (w : activityRefusal a ready ≡ 0) where
-    pub going-start : t ≤ 2 ^ 43 → i < b .len → Going idle
+    pub going-start : t ≤ 2 ^ 43 → i < b .len → AskedTo idle
     going-start soon l =
         let z : max from 0 ≡ from = omega arith in
         record { few = omega arith; soon = omega arith; so = λ e. rw z (asked-start _ _ _ _ (omega (arith, soon, arrival-range b v a ready w i l))) }
@@ -92,7 +93,7 @@ module _ (b : Board) (a : Activity) (ready i t : ℕ) (q : ResourceRequirement) 
       abbrev plan : p ≡ planOf b a ready r
       plan = n .plan
 
-      abbrev go : Going g
+      abbrev go : AskedTo g
       go = n .go
 
       pub number-range : p .number < 16

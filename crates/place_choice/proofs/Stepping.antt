@@ -13,14 +13,13 @@ use Rattle.cells.specs.Laws.Basics.{not-both, lt-or-ge}
 use Rattle.calendar.specs.Search.{Found}
 use Rattle.activity.specs.declared.Activity.{Activity}
 use Rattle.activity.specs.Check.{activityRefusal}
-use Rattle.activity.proofs.Judging.{accepted}
+use Rattle.activity.specs.Laws.Judging.{accepted}
 use Rattle.board.specs.declared.Board.{Board}
 use Rattle.board.specs.Resources.{resourceAt}
 use Rattle.board.specs.Valid.{valid}
-use Rattle.board.proofs.Facts.{rules}
-use Rattle.scheduler.specs.Events.{above}
-use Rattle.scheduler.specs.Ruled.{points}
-use Rattle.scheduler.specs.Counting.{instants-few}
+use Rattle.board.specs.Laws.Facts.{rules}
+use Rattle.scheduler.specs.Instants.{above, points}
+use Rattle.scheduler.specs.Theorems.Counting.{instants-few}
 use Rattle.place_plans.specs.declared.Plan.{Plan}
 use Rattle.place_plans.specs.Plans.{noPlan, planWith, planOf, Planned}
 use Rattle.place_plans.proofs.Planning.{planned-next}
@@ -32,7 +31,7 @@ use Rattle.place_rounds.proofs.Noting.{Through, through-start, kept-none, cell-
 use Rattle.place_rounds.specs.declared.Rounds.{Rounds}
 use Rattle.place_rounds.specs.Rounds.{Settled, Fewer}
 use Rattle.place_rounds.proofs.Settling.{led-start, settled-none}
-use Rattle.place_choice.proofs.Asking.{asked-here, Going, going-start, Next, Told}
+use Rattle.place_choice.proofs.Asking.{asked-here, AskedTo, going-start, Next, Told}
 
 -- the plans of the places so far, the rounds so far, what is known of the cells in front, and the asking at hand
 pub record State (b : Board) (a : Activity) (ready : ℕ) (plans : List Plan) (asked starts : List ℕ) (x : Rounds) (g : Asking) (planned k : ℕ) : Type 0 where
@@ -47,7 +46,7 @@ pub record State (b : Board) (a : Activity) (ready : ℕ) (plans : List Plan) (a
   pub kept : Remembered b a ready asked starts
   pub thru : Through b a ready (x .instant) starts k
   pub none : 16 * a .len ≤ k → g ≡ idle
-  pub going : x .done ≡ false → toAsk (k % 16) (b .len) (getD asked k 0) (getD starts k 0) (x .instant) ≡ true → Going b a ready (k % 16) (x .instant) (requirementAt a (k / 16)) g
+  pub going : x .done ≡ false → toAsk (k % 16) (b .len) (getD asked k 0) (getD starts k 0) (x .instant) ≡ true → AskedTo b a ready (k % 16) (x .instant) (requirementAt a (k / 16)) g
 
 -- instants left, cells left, members left and plans left: the number of instants is what ends the rounds, and the asking in each.
 -- The next cell is asked anew, at most 2,064 * 32 + 5 < 70,000; the next round asks anew at most 64 * 70,000 < 5,000,000.

@@ -2,8 +2,8 @@
 // `place_activity` in scheduler/simple.rs; 01, 'Choosing').
 use activity::Activity;
 use board::Board;
-use timeline_fit::Start;
 use place_rounds::Choice;
+use timeline_fit::Start;
 ghost use mathlib.Core.Path.{_≡_};
 ghost use mathlib.Core.Bool.{true};
 ghost use Prim.Native.Nat.{_≤_};
@@ -36,7 +36,14 @@ pub fn choose(b: Board, a: Activity, ready: u64, places: [usize; 16]) -> Choice
             k = 0;
         } else if place_rounds::is_asked(k % 16, b.len, asked[k], starts[k], x.instant) {
             let p = plans[k % 16];
-            let m = place_companions::member_of(a.requirements[k / 16], p, k % 16, places, x.instant, g);
+            let m = place_companions::member_of(
+                a.requirements[k / 16],
+                p,
+                k % 16,
+                places,
+                x.instant,
+                g,
+            );
             let place = m.place;
             let mut s = Start::Nothing;
             if place < 16 {

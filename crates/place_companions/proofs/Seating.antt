@@ -15,15 +15,15 @@ use Rattle.board.specs.declared.Resource.{Resource}
 use Rattle.board.specs.declared.Board.{Board}
 use Rattle.board.specs.Resources.{onBoard, resourceAt}
 use Rattle.board.specs.Valid.{valid}
-use Rattle.board.proofs.Facts.{rules}
-use Rattle.board.proofs.Seeing.{place-on}
-use Rattle.board.proofs.Meaning.{resource-of}
+use Rattle.board.specs.Laws.Facts.{rules}
+use Rattle.board.specs.Laws.Seeing.{place-on}
+use Rattle.board.specs.Theorems.Meaning.{resource-of}
 use Rattle.scheduler.specs.Alone.{Share, oneUnit, resourceIn, companionsOf, withCompanions}
 use Rattle.cells.specs.Laws.Every.{every-next, every-off}
 use Rattle.scheduler.specs.Shares.{noShare}
 use Rattle.board.specs.Places.{Known}
 use Rattle.place_companions.specs.Seats.{placeIn, placed, seatOf}
-use Rattle.board.proofs.Knowing.{number-place}
+use Rattle.board.specs.Laws.Knowing.{number-place}
 
 -- one put behind a list is another cell
 behind-other : (xs : List ℕ) (p d i : ℕ) → (length xs ≡ i → ⊥) → getD (xs ++ (p ∷ [])) i d ≡ getD xs i d

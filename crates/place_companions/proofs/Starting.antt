@@ -4,16 +4,15 @@ use mathlib.Core.Bool.{true, false}
 use mathlib.Core.List.{[], _∷_}
 use Prim.Native.Nat.{ℕ}
 use Rattle.cells.specs.Laws.Basics.{not-both}
-use Rattle.calendar.specs.Search.{Found, nothing, at}
-use Rattle.calendar.specs.Searching.{Answers}
+use Rattle.calendar.specs.Search.{Found, nothing, at, Answers}
 use Rattle.calendar.specs.Work.{jointEnd}
 use Rattle.timeline.specs.declared.ResourceTimeline.{ResourceTimeline}
 use Rattle.timeline.specs.Valid.{valid}
 use Rattle.timeline.specs.Earliest.{freeTo, startsAt, earliestResumable}
-use Rattle.timeline.specs.Ask.{Reply, fit, none, refused, ended, resumed}
-use Rattle.timeline.proofs.Meaning.{resumable-means}
+use Rattle.timeline.specs.Ask.{AskReply, fit, none, refused, ended, resumed}
+use Rattle.timeline.specs.Theorems.Meaning.{resumable-means}
 
-pub startIn : Reply → Found
+pub startIn : AskReply → Found
 startIn (fit s e) = at s
 startIn none = nothing
 startIn (refused n) = nothing

@@ -3,7 +3,7 @@ use Prim.Native.Nat.{ℕ}
 use lib.Dec.{eqb}
 use Rattle.calendar.specs.Limits.{never}
 use Rattle.calendar.specs.Search.{Found, nothing, at}
-use Rattle.scheduler.specs.Asking.{nextAsked}
+use Rattle.scheduler.specs.Shares.{nextAsked}
 use Rattle.place_companions.specs.declared.Asking.{Asking}
 
 -- nobody has answered yet

@@ -15,8 +15,7 @@ ghost use mathlib.Core.Bool.{true};
 ghost use Rattle.calendar.specs.Limits.{lastAsked, longestSpan, never};
 ghost use Rattle.timeline.specs.Valid.{valid};
 ghost use Rattle.timeline_fit.specs.Steps.{startOf};
-ghost use Rattle.scheduler.specs.Shares.{startOn};
-ghost use Rattle.scheduler.specs.Asking.{nextAsked};
+ghost use Rattle.scheduler.specs.Shares.{startOn, nextAsked};
 ghost use Rattle.place_companions.specs.Steps.{idle, answeredBy};
 ghost use Rattle.place_companions.specs.Members.{memberOf};
 

@@ -8,10 +8,10 @@ use borrow.Author.Tests.{lt-ltb, eq-eqb, ne-eqb}
 use lib.ListN.{length, getD, set, take, drop, length-set, length-append}
 use lib.Seq.{take-suc-set, getD-take, length-take-le}
 use lib.Dec.{eqb, ltb}
-use Rattle.board.proofs.Counts.{countTo, count-none, count-most, count-more}
+use Rattle.board.specs.Laws.Counts.{countTo, count-none, count-most, count-more}
 use Rattle.scheduler.specs.declared.Entry.{Entry}
 use Rattle.scheduler.specs.Fitting.{among, joinEach, companionEntry}
-use Rattle.scheduler.specs.Events.{among-append}
+use Rattle.scheduler.specs.Laws.Events.{among-append}
 use Rattle.cells.specs.Every.{Each}
 use Rattle.cells.specs.Laws.Basics.{or-right, take-next, take-split}
 use Rattle.place_entries.specs.Cells.{noEntry, numberIn, Small}

@@ -3,7 +3,7 @@ use mathlib.Core.Path.{_≡_, ap, _∙_}
 use mathlib.Core.List.{List, [], _∷_, _++_}
 use Prim.Native.Nat.{ℕ, _+_, _<_, max}
 use lib.ListN.{length, getD, take}
-use Rattle.calendar.specs.Searching.{greatest-snoc}
+use Rattle.calendar.specs.Laws.Searching.{greatest-snoc}
 use Rattle.scheduler.specs.declared.Entry.{Entry}
 use Rattle.scheduler.specs.Fitting.{greatestSetup}
 use Rattle.cells.specs.Laws.Basics.{take-next}

@@ -7,13 +7,13 @@ use native.Mathlib.Omega.{arith}
 use lib.ListN.{length, getD, set, take, length-take}
 use lib.Seq.{getD-set-same, getD-set-other, length-take-le, getD-take}
 use mathlib.Core.Logic.{⊎-elim}
-use Rattle.calendar.specs.Searching.{greatest-most}
+use Rattle.calendar.specs.Laws.Searching.{greatest-most}
 use Rattle.cells.specs.Laws.Basics.{same-or-not, take-next}
 use Rattle.activity.specs.declared.ActivityDuration.{ActivityDuration}
 use Rattle.activity.specs.declared.Activity.{Activity}
 use Rattle.activity.specs.Durations.{durationOn}
 use Rattle.activity.specs.Lawful.{Lawful}
-use Rattle.activity.proofs.Meaning.{Bounded, duration-bounded}
+use Rattle.activity.specs.Theorems.Meaning.{Bounded, duration-bounded}
 use Rattle.board.specs.declared.TransitionMatrix.{TransitionMatrix}
 use Rattle.board.specs.declared.LastCategory.{LastCategory}
 use Rattle.board.specs.declared.Resource.{Resource}
@@ -21,7 +21,7 @@ use Rattle.board.specs.declared.Board.{Board}
 use Rattle.board.specs.Resources.{resourceAt}
 use Rattle.board.specs.Setups.{setupMs, matrixSetup}
 use Rattle.board.specs.Valid.{valid}
-use Rattle.board.proofs.Meaning.{resource-of, setup-small}
+use Rattle.board.specs.Theorems.Meaning.{resource-of, setup-small}
 use Rattle.scheduler.specs.declared.Entry.{Entry}
 use Rattle.scheduler.specs.declared.Selection.{Selection}
 use Rattle.scheduler.specs.Alone.{companionsOf, spanOf}
@@ -30,7 +30,7 @@ use Rattle.scheduler.specs.Fitting.{numberOf, numbersOf, durationTogether, held
 use Rattle.scheduler.specs.Selections.{noSelection, heldOf, heldTo, OnPlaces}
 use Rattle.place_entries.specs.declared.Parts.{Parts}
 use Rattle.place_entries.specs.Cells.{noEntry, numberIn}
-use Rattle.place_entries.specs.Parts.{keptSetup, setupAt, Taken, Parted}
+use Rattle.place_entries.specs.Parts.{keptSetup, setupAt, PlansKnown, Parted}
 use Rattle.place_plans.specs.declared.Plan.{Plan}
 use Rattle.place_plans.specs.Plans.{noPlan, planWith}
 use Rattle.cells.specs.Laws.Arrays.{cells-map}
@@ -68,7 +68,7 @@ kept-next fs ss i f s g l m h e k n own =
     (same-or-not i k)
 
 -- the companions in the plan of one held
-pub plan-companions : (b : Board) (a : Activity) (ready : ℕ) (plans : List Plan) (hs : List Selection) (n : ℕ) → Taken b a ready plans hs n → (i : ℕ) → i < n
+pub plan-companions : (b : Board) (a : Activity) (ready : ℕ) (plans : List Plan) (hs : List Selection) (n : ℕ) → PlansKnown b a ready plans hs n → (i : ℕ) → i < n
     → (getD plans (getD hs i noSelection .place) noPlan .count ≤ 4) × ((k : ℕ) → k < getD plans (getD hs i noSelection .place) noPlan .count → getD (getD plans (getD hs i noSelection .place) noPlan .companions) k 0 < 16)
 unfolding planWith
 plan-companions b a ready plans hs n t i l =

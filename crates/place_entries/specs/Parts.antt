@@ -28,7 +28,7 @@ abbrev pub setupAt : Parts → List Selection → ℕ → ℕ → Entry
 setupAt p hs own k = record { number = getD (p .numbers) k 0; setup = keptSetup p own k; units = getD hs k noSelection .usage; companion = false }
 
 -- those held stand on a board that keeps the rules, and their plans are known
-pub record Taken (b : Board) (a : Activity) (ready : ℕ) (plans : List Plan) (hs : List Selection) (n : ℕ) : Type 0 where
+pub record PlansKnown (b : Board) (a : Activity) (ready : ℕ) (plans : List Plan) (hs : List Selection) (n : ℕ) : Type 0 where
   pub right : valid b ≡ true
   pub planned : Planned b a ready (b .len) plans
   pub places : OnPlaces b hs n

@@ -22,11 +22,11 @@ ghost use Rattle.board.specs.declared.Board as declared;
 ghost use Rattle.scheduler.specs.Fitting.{greatestSetup, entriesOf, spanTogether};
 ghost use Rattle.scheduler.specs.Selections.{heldTo};
 ghost use Rattle.cells.specs.Every.{Each};
-ghost use Rattle.place_entries.specs.Parts.{setupAt, Taken, Parted};
+ghost use Rattle.place_entries.specs.Parts.{setupAt, PlansKnown, Parted};
 ghost use Rattle.place_entries.specs.Cells.{noEntry, Small};
 
 // The entries of a placement, and its span.
-pub struct Together {
+pub struct Spanned {
     pub entries: Entries,
     pub span: u64,
 }
@@ -59,8 +59,8 @@ fn push_each(list: Companions, more: [u8; 4], count: usize) -> Companions
 
 // What the plans of those held have.
 fn parts_of(plans: [Plan; 16], held: [Selection; 8], count: usize) -> Parts
-    requires { ⌜ (count ≤ 8) × ((b : declared.Board) × (a : ordered.Activity) × (ready : ℕ) × Taken b a ready plans held count) ⌝ }
-    ensures { λ r. ⌜ ((b : declared.Board) (a : ordered.Activity) (ready : ℕ) → Taken b a ready plans held count → Parted b (a .category) held count r) ⌝ }
+    requires { ⌜ (count ≤ 8) × ((b : declared.Board) × (a : ordered.Activity) × (ready : ℕ) × PlansKnown b a ready plans held count) ⌝ }
+    ensures { λ r. ⌜ ((b : declared.Board) (a : ordered.Activity) (ready : ℕ) → PlansKnown b a ready plans held count → Parted b (a .category) held count r) ⌝ }
 {
     let mut numbers: [u8; 8] = [0; 8];
     let mut matrices: [bool; 8] = [false; 8];
@@ -132,10 +132,10 @@ fn greatest_setup(e: Entries) -> u64
 }
 
 // The entries of those held and their companions, and the span: the greatest setup among those held, process and teardown.
-pub fn entries_of(plans: [Plan; 16], a: Activity, held: [Selection; 8], count: usize) -> Together
-    requires { ⌜ Lawful (a .duration) (a .timings) × (a .category ≤ 15) × (count ≤ 8) × ((b : declared.Board) × (ready : ℕ) × Taken b a ready plans held count) ⌝ }
+pub fn entries_of(plans: [Plan; 16], a: Activity, held: [Selection; 8], count: usize) -> Spanned
+    requires { ⌜ Lawful (a .duration) (a .timings) × (a .category ≤ 15) × (count ≤ 8) × ((b : declared.Board) × (ready : ℕ) × PlansKnown b a ready plans held count) ⌝ }
     ensures { λ r. ⌜ (r .entries .count ≤ 24) × (length (r .entries .entries) ≡ 24) × (r .span ≤ longestSpan) ⌝ }
-    ensures { λ r. ⌜ ((b : declared.Board) (ready : ℕ) → Taken b a ready plans held count → (take (r .entries .count) (r .entries .entries) ≡ entriesOf a (heldTo b held count)) × (r .span ≡ spanTogether a (heldTo b held count))) ⌝ }
+    ensures { λ r. ⌜ ((b : declared.Board) (ready : ℕ) → PlansKnown b a ready plans held count → (take (r .entries .count) (r .entries .entries) ≡ entriesOf a (heldTo b held count)) × (r .span ≡ spanTogether a (heldTo b held count))) ⌝ }
 {
     let p = parts_of(plans, held, count);
     let base = a.duration;
@@ -146,7 +146,7 @@ pub fn entries_of(plans: [Plan; 16], a: Activity, held: [Selection; 8], count: u
     let span = greatest_setup(e) + d.process + d.teardown;
     let list = p.companions;
     let all = join_each(e, list);
-    Together {
+    Spanned {
         entries: all,
         span: span,
     }

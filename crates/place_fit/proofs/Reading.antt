@@ -14,19 +14,19 @@ use Rattle.timeline.specs.Valid as timeline
 use Rattle.board.specs.declared.Board.{Board}
 use Rattle.board.specs.Resources.{lookup, onBoard}
 use Rattle.board.specs.Valid.{valid}
-use Rattle.board.proofs.Facts.{rules}
+use Rattle.board.specs.Laws.Facts.{rules}
 use Rattle.scheduler.specs.declared.Entry.{Entry}
 use Rattle.scheduler.specs.Alone.{Share, resourceIn}
 use Rattle.scheduler.specs.Fitting.{shareOf, sharesOf}
-use Rattle.scheduler.specs.Shares.{noShare}
+use Rattle.scheduler.specs.Shares.{noShare, ownShare}
 use Rattle.cells.specs.Every.{each-on}
 use Rattle.cells.specs.Laws.Arrays.{each-at, each-cells}
-use Rattle.scheduler.specs.Together.{Sound}
-use Rattle.scheduler.specs.Ruled.{entries-valid}
-use Rattle.scheduler.specs.Events.{eventsOf}
-use Rattle.scheduler.specs.Owning.{ownShare, own-valid}
+use Rattle.scheduler.specs.Laws.Together.{Sound}
+use Rattle.scheduler.specs.Laws.Ruled.{entries-valid}
+use Rattle.scheduler.specs.Instants.{eventsOf}
+use Rattle.scheduler.specs.Laws.Owning.{own-valid}
 use Rattle.board.specs.Places.{Known}
-use Rattle.board.proofs.Knowing.{number-place}
+use Rattle.board.specs.Laws.Knowing.{number-place}
 use Rattle.place_companions.proofs.Seating.{shareAt}
 use Rattle.place_entries.specs.Cells.{noEntry}
 use Rattle.place_fit.specs.Closing.{EntriesOn}

@@ -23,14 +23,14 @@ pub record EntriesOn (b : Board) (es : List Entry) (n : ℕ) : Type 0 where
   pub each : (k : ℕ) → k < n → (onBoard b (getD es k noEntry .number) ≡ true) × (1 ≤ getD es k noEntry .units)
 
 -- a start with its end
-unfoldable pub withEnd : Bool → List Share → Calendar → ℕ → Found → asking.Reply
+unfoldable pub withEnd : Bool → List Share → Calendar → ℕ → Found → asking.AskReply
 withEnd resumable xs own span nothing = asking.none
 withEnd resumable xs own span (at s) = asking.ended s (endOf resumable xs own span s)
 
 -- the least start that suits all, with its end
-unfoldable pub closing : Bool → List Share → Calendar → ℕ → ℕ → asking.Reply
+unfoldable pub closing : Bool → List Share → Calendar → ℕ → ℕ → asking.AskReply
 closing resumable xs own span from = withEnd resumable xs own span (fitting resumable xs own span from)
 
-unfoldable pub fitOf : Fit → asking.Reply
+unfoldable pub fitOf : Fit → asking.AskReply
 fitOf (At s e) = asking.fit s e
 fitOf Nothing = asking.none

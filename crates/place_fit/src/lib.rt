@@ -2,9 +2,9 @@
 // `own_timeline` in scheduler/simple.rs; 01, 'Fitting').
 use board::Board;
 use calendar::Calendar;
-use timeline_fit::Start;
 use place_entries::Entries;
 use timeline::ResourceTimeline;
+use timeline_fit::Start;
 ghost use mathlib.Core.Path.{_≡_};
 ghost use mathlib.Core.Bool.{true, false};
 ghost use Prim.Native.Nat.{_≤_};
@@ -13,7 +13,7 @@ ghost use Rattle.calendar.specs.Limits.{lastAsked, longestSpan};
 ghost use Rattle.calendar.specs.Valid as calendar;
 ghost use Rattle.board.specs.Valid.{valid};
 ghost use Rattle.scheduler.specs.Fitting.{sharesOf};
-ghost use Rattle.scheduler.specs.Owning.{ownShare};
+ghost use Rattle.scheduler.specs.Shares.{ownShare};
 ghost use Rattle.board.specs.Places.{Known};
 ghost use Rattle.place_fit.specs.Closing.{EntriesOn, closing, fitOf};
 

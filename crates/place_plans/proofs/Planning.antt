@@ -11,8 +11,8 @@ use Rattle.activity.specs.declared.Timed.{Timed}
 use Rattle.activity.specs.Check.{activityRefusal}
 use Rattle.activity.specs.Durations.{durationOn}
 use Rattle.activity.specs.Lawful.{Lawful}
-use Rattle.activity.proofs.Judging.{Accepted, accepted}
-use Rattle.activity.proofs.Meaning.{Bounded, duration-bounded}
+use Rattle.activity.specs.Laws.Judging.{Accepted, accepted}
+use Rattle.activity.specs.Theorems.Meaning.{Bounded, duration-bounded}
 use Rattle.board.specs.declared.Resource.{Resource}
 use Rattle.board.specs.declared.Board.{Board}
 use Rattle.board.specs.Setups.{setupOn}
@@ -20,7 +20,7 @@ use Rattle.board.specs.Resources.{resourceAt, numberAt}
 use Rattle.board.specs.Transport.{greatestTransport}
 use Rattle.board.specs.Places.{anywhere}
 use Rattle.board.specs.Valid.{valid, resourceRight}
-use Rattle.board.proofs.Meaning.{resource-rules, resource-of, transport-is, greatest-small, setup-small}
+use Rattle.board.specs.Theorems.Meaning.{resource-rules, resource-of, transport-is, greatest-small, setup-small}
 use Rattle.scheduler.specs.Alone.{arrival}
 use Rattle.cells.specs.Laws.Basics.{filled-next}
 use Rattle.place_plans.specs.declared.Plan.{Plan}

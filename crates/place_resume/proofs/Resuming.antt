@@ -6,13 +6,13 @@ use Prim.Native.Nat.{ℕ, suc, _^_, _≤_, _<_}
 use native.Mathlib.Omega.{arith}
 use Rattle.calendar.specs.Search.{Found, nothing, at}
 use Rattle.calendar.specs.Work.{jointEnd}
-use Rattle.calendar.specs.Searching.{not-at}
-use Rattle.timeline.proofs.Searching.{Sought, sought-on, sought-found, sought-none}
+use Rattle.calendar.specs.Laws.Searching.{not-at}
+use Rattle.timeline.specs.Laws.Searching.{Sought, sought-on, sought-found, sought-none}
 use Rattle.scheduler.specs.Alone.{Share, lastOf}
 use Rattle.scheduler.specs.Fitting.{calendarOf, allFree, freeToEnd}
-use Rattle.scheduler.specs.Together.{Sound, Calm, last-calm}
-use Rattle.scheduler.specs.Latest.{last-small}
-use Rattle.scheduler.specs.Owning.{suitsOn, suits-on-back, leastOn}
+use Rattle.scheduler.specs.Laws.Together.{Sound, Calm, last-calm}
+use Rattle.scheduler.specs.Laws.Latest.{last-small}
+use Rattle.scheduler.specs.Laws.Owning.{suitsOn, suits-on-back, leastOn}
 
 -- the joint end, where all are free up to it
 unfoldable pub endFree : List Share → ℕ → Found → Found

@@ -14,7 +14,7 @@ use Rattle.cells.specs.Laws.Every.{every-append}
 use Rattle.calendar.specs.declared.Calendar.{Calendar}
 use Rattle.cells.specs.Laws.Basics.{not-both, same-or-not, or-in-left, or-in-right, take-next}
 use Rattle.calendar.specs.Search.{Found, nothing, at, when}
-use Rattle.calendar.specs.Searching.{not-at}
+use Rattle.calendar.specs.Laws.Searching.{not-at}
 use Rattle.calendar.specs.Work.{joint, jointEnd, workEnd}
 use Rattle.calendar.specs.Valid as calendar
 use Rattle.cells.specs.Cells.{before}
@@ -24,19 +24,20 @@ use Rattle.calendar_joint.proofs.Ending.{layout-end}
 use Rattle.timeline.specs.declared.ResourceTimeline.{ResourceTimeline}
 use Rattle.timeline.specs.Valid.{valid}
 use Rattle.timeline.specs.Earliest.{freeOn}
-use Rattle.timeline.proofs.Rules.{rules}
-use Rattle.timeline.proofs.Searching.{Sought, sought-start}
-use Rattle.timeline.proofs.Stepping.{Still}
+use Rattle.timeline.specs.Laws.Rules.{rules}
+use Rattle.timeline.specs.Laws.Searching.{Sought, sought-start}
+use Rattle.timeline.specs.Steps.{Still}
 use Rattle.scheduler.specs.Alone.{Share}
 use Rattle.scheduler.specs.Fitting.{among, calendarOf, allFree}
 use Rattle.scheduler.specs.Shares.{noShare}
 use Rattle.cells.specs.Laws.Each.{each-append}
 use Rattle.cells.specs.Laws.Arrays.{each-at, cells-map}
-use Rattle.scheduler.specs.Events.{events, eventsOf, among-left, among-right, above, above-falls}
-use Rattle.scheduler.specs.Asking.{share-event}
+use Rattle.scheduler.specs.Instants.{events, eventsOf, above}
+use Rattle.scheduler.specs.Laws.Events.{among-left, among-right, above-falls}
+use Rattle.scheduler.specs.Laws.Asking.{share-event}
 use Rattle.timeline_candidates.specs.Steps.{Listed, Event}
-use Rattle.scheduler.specs.Together.{Sound, Calm}
-use Rattle.scheduler.specs.Owning.{suitsOn, leastOn}
+use Rattle.scheduler.specs.Laws.Together.{Sound, Calm}
+use Rattle.scheduler.specs.Laws.Owning.{suitsOn, leastOn}
 use Rattle.place_resume.proofs.Resuming.{endFree, Least, found, onward, over}
 
 -- an end, where there is one

@@ -3,9 +3,9 @@
 use board::Board;
 use calendar::Calendar;
 use calendar::limits::NEVER;
+use calendar_work::WorkEnd;
 use place_entries::Entries;
 use place_fit::Fit;
-use calendar_work::WorkEnd;
 use timeline::ResourceTimeline;
 ghost use mathlib.Core.Path.{_≡_};
 ghost use mathlib.Core.Bool.{true, false, _&&_, cond};
@@ -20,7 +20,7 @@ ghost use Rattle.cells.specs.Cells.{before};
 ghost use Rattle.calendar_work.specs.Layout.{Edges, laid};
 ghost use Rattle.timeline.specs.Valid as timeline;
 ghost use Rattle.timeline.specs.Earliest.{freeOn};
-ghost use Rattle.timeline.proofs.Stepping.{Still};
+ghost use Rattle.timeline.specs.Steps.{Still};
 ghost use Rattle.timeline_candidates.specs.Steps.{Event};
 ghost use Rattle.board.specs.Valid.{valid};
 ghost use Rattle.scheduler.specs.Fitting.{sharesOf};
@@ -78,7 +78,7 @@ fn asked(d: ResourceTimeline, units: u32, t: Trial) -> Trial
     if t.free {
         r.free = timeline_free::is_free(d, t.at, t.end, units);
     }
-    let c = timeline_candidates::next_candidate(d, t.at);
+    let c = timeline_candidates::next_start_candidate(d, t.at);
     if c < t.next {
         r.next = c;
     }

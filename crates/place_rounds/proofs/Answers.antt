@@ -6,7 +6,7 @@ use Prim.Native.Nat.{ℕ, zero, suc, _+_, _^_, _≤_, _<_}
 use native.Mathlib.Omega.{arith}
 use lib.ListN.{length, take}
 use lib.Seq.{take-suc}
-use Rattle.timeline.proofs.Rules as timeline-rules
+use Rattle.timeline.specs.Laws.Rules as timeline-rules
 use Rattle.activity.specs.declared.ResourceRequirement.{ResourceRequirement}
 use Rattle.activity.specs.declared.Activity.{Activity}
 use Rattle.activity.specs.Serving.{serves}
@@ -16,10 +16,10 @@ use Rattle.board.specs.declared.Board.{Board}
 use Rattle.board.specs.Resources.{noResource, resourceAt}
 use Rattle.board.specs.Valid as board
 use Rattle.scheduler.specs.Alone.{durationAlone, startAlone}
-use Rattle.scheduler.specs.Answering.{told}
+use Rattle.scheduler.specs.Laws.Answering.{told}
 use Rattle.scheduler.specs.Choosing as scheduler
 use Rattle.cells.specs.Every.{Each, each-end}
-use Rattle.scheduler.specs.Ruled.{all-there}
+use Rattle.scheduler.specs.Laws.Ruled.{all-there}
 use Rattle.place_rounds.specs.declared.rank.Candidate.{Candidate}
 use Rattle.place_rounds.specs.declared.rank.Ranked.{Ranked}
 use Rattle.place_rounds.specs.Named.{candidateOf, rankedOf, putIn, precedes}
@@ -27,7 +27,7 @@ use Rattle.place_rounds.specs.Tables.{foundAt, numberOf}
 use Rattle.place_rounds.proofs.Finding.{number-at, number-none, found-range}
 use Rattle.place_rounds.specs.Rounds.{answerAt, answersTo, Fair}
 use Rattle.place_rounds.proofs.Inserting.{put-is}
-use Rattle.scheduler.specs.Ranking.{each-insert}
+use Rattle.scheduler.specs.Laws.Ranking.{each-insert}
 
 -- sorted: one behind the other
 sort-more : (s cs ds : List scheduler.Candidate) → scheduler.sortInto s (cs ++ ds) ≡ scheduler.sortInto (scheduler.sortInto s cs) ds
@@ -36,13 +36,13 @@ sort-more s [] ds = refl
 sort-more s (c ∷ cs) ds = sort-more (scheduler.insert c s) cs ds
 
 -- the candidates of the first i places, sorted
-pub record Sorted (b : Board) (a : Activity) (ready : ℕ) (q : ResourceRequirement) (t i : ℕ) (k : Ranked) : Type 0 where
+pub record SortedTo (b : Board) (a : Activity) (ready : ℕ) (q : ResourceRequirement) (t i : ℕ) (k : Ranked) : Type 0 where
   pub few : k .count ≤ i
   pub so : rankedOf b k ≡ scheduler.sort (answersTo b a ready q t i)
   pub fair : Each (Fair b) (take (k .count) (k .candidates))
 
 module _ (b : Board) (a : Activity) (ready : ℕ) (q : ResourceRequirement) (t : ℕ) where
-  pub sorted-start : (k : Ranked) → k .count ≡ 0 → Sorted b a ready q t 0 k
+  pub sorted-start : (k : Ranked) → k .count ≡ 0 → SortedTo b a ready q t 0 k
   unfolding answersTo scheduler.sortInto
   sorted-start k e = record { few = omega arith; so = rw e refl; fair = subst (λ (n : ℕ). Each (Fair b) (take n (k .candidates))) (sym e) each-end }
 
@@ -53,13 +53,13 @@ module _ (b : Board) (a : Activity) (ready : ℕ) (q : ResourceRequirement) (t :
       rw z (sort-more [] (answersTo b a ready q t i) (answerAt b a ready q t i))
 
   -- no answer
-  sorted-off : (i : ℕ) (k : Ranked) → Sorted b a ready q t i k → answerAt b a ready q t i ≡ [] → Sorted b a ready q t (i + 1) k
+  sorted-off : (i : ℕ) (k : Ranked) → SortedTo b a ready q t i k → answerAt b a ready q t i ≡ [] → SortedTo b a ready q t (i + 1) k
   unfolding scheduler.sortInto
   sorted-off i k s e = record { few = omega (arith, s .few); so = s .so ∙ sym (next i ∙ ap (scheduler.sortInto (scheduler.sort (answersTo b a ready q t i))) e); fair = s .fair }
 
   -- one candidate more
-  sorted-on : (i : ℕ) (k r : Ranked) (c : Candidate) → Sorted b a ready q t i k → answerAt b a ready q t i ≡ candidateOf b c ∷ [] → Fair b c
-      → r .count ≡ k .count + 1 → take (r .count) (r .candidates) ≡ putIn c (take (k .count) (k .candidates)) → Sorted b a ready q t (i + 1) r
+  sorted-on : (i : ℕ) (k r : Ranked) (c : Candidate) → SortedTo b a ready q t i k → answerAt b a ready q t i ≡ candidateOf b c ∷ [] → Fair b c
+      → r .count ≡ k .count + 1 → take (r .count) (r .candidates) ≡ putIn c (take (k .count) (k .candidates)) → SortedTo b a ready q t (i + 1) r
   unfolding scheduler.sortInto
   sorted-on i k r c s e f n w = record {
     few = omega (arith, s .few);
@@ -89,13 +89,13 @@ module _ (b : Board) (v : board.valid b ≡ true) (a : Activity) (ready : ℕ) (
 
 -- a turn of the loop over the table: a start, or none
 module _ (b : Board) (v : board.valid b ≡ true) (a : Activity) (ready : ℕ) (w : activityRefusal a ready ≡ 0) (q : ResourceRequirement) (i : ℕ) (l : i < b .len)
-    (t : ℕ) (m : t ≤ 2 ^ 43) (x : ℕ) (e : x ≡ numberOf (foundAt b a ready q t i)) (k : Ranked) (s : Sorted b a ready q t i k) where
-  pub turn-none : 2 ^ 63 ≤ x → Sorted b a ready q t (i + 1) k
+    (t : ℕ) (m : t ≤ 2 ^ 43) (x : ℕ) (e : x ≡ numberOf (foundAt b a ready q t i)) (k : Ranked) (s : SortedTo b a ready q t i k) where
+  pub turn-none : 2 ^ 63 ≤ x → SortedTo b a ready q t (i + 1) k
   unfolding answerAt scheduler.answer
   turn-none h = sorted-off b a ready q t i k s (rw (number-none (foundAt b a ready q t i) (omega arith) (λ y f. found-range b v a ready w q i l t y m f)) refl)
 
   pub turn-on : (r : Ranked) → x < 2 ^ 63 → r .count ≡ k .count + 1
-      → take (r .count) (r .candidates) ≡ putIn (record { start = x; process = durationAlone a (resourceAt b i) .process; place = i }) (take (k .count) (k .candidates)) → Sorted b a ready q t (i + 1) r
+      → take (r .count) (r .candidates) ≡ putIn (record { start = x; process = durationAlone a (resourceAt b i) .process; place = i }) (take (k .count) (k .candidates)) → SortedTo b a ready q t (i + 1) r
   unfolding answerAt scheduler.answer candidateOf
   turn-on r h n o =
       let f = number-at (foundAt b a ready q t i) x e h in

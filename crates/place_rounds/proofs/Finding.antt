@@ -7,26 +7,26 @@ use native.Mathlib.Omega.{arith}
 use lib.ListN.{getD, length}
 use lib.Seq.{getD-take, length-take-le}
 use Rattle.cells.specs.Every.{every}
-use Rattle.calendar.specs.Search.{Found, nothing, at}
+use Rattle.calendar.specs.Search.{Found, nothing, at, Answers}
 use Rattle.activity.specs.declared.ResourceRequirement.{ResourceRequirement}
 use Rattle.activity.specs.declared.Activity.{Activity}
 use Rattle.activity.specs.Serving.{serves}
 use Rattle.activity.specs.Check.{requirementsOf, activityRefusal, noRequirement}
-use Rattle.activity.proofs.Judging.{accepted}
-use Rattle.activity.proofs.Meaning.{duration-bounded}
+use Rattle.activity.specs.Laws.Judging.{accepted}
+use Rattle.activity.specs.Theorems.Meaning.{duration-bounded}
 use Rattle.board.specs.declared.Resource.{Resource}
 use Rattle.board.specs.declared.Board.{Board}
 use Rattle.board.specs.Resources.{noResource, resourcesOf, resourceAt, onBoard}
 use Rattle.board.specs.Valid as board
-use Rattle.board.proofs.Meaning.{resource-of, greatest-small, setup-small}
+use Rattle.board.specs.Theorems.Meaning.{resource-of, greatest-small, setup-small}
 use Rattle.scheduler.specs.Alone.{Share, allStart, lastOf, earliestOf, companionsOf, withCompanions, durationAlone, spanOf, spanAlone, arrival, startWith, startAlone}
 use Rattle.scheduler.specs.Plain.{startsThere}
 use Rattle.cells.specs.Laws.Arrays.{each-at}
-use Rattle.scheduler.specs.Together.{Sound}
-use Rattle.scheduler.specs.Latest.{last-small}
-use Rattle.scheduler.specs.Ruled.{all-kept, all-there}
-use Rattle.calendar.specs.Searching.{Answers, answers-same, not-at, least-found}
-use Rattle.scheduler.specs.Answering.{Kept, alone-answers}
+use Rattle.scheduler.specs.Laws.Together.{Sound}
+use Rattle.scheduler.specs.Laws.Latest.{last-small}
+use Rattle.scheduler.specs.Laws.Ruled.{all-kept, all-there}
+use Rattle.calendar.specs.Laws.Searching.{answers-same, not-at, least-found}
+use Rattle.scheduler.specs.Laws.Answering.{KeepsRules, alone-answers}
 use Rattle.place_rounds.specs.Tables.{foundAt, numberOf}
 
 -- span and arrival of a resource alone are in range
@@ -50,7 +50,7 @@ module _ (b : Board) (v : board.valid b ≡ true) (a : Activity) (ready : ℕ) (
   companions-kept : (q : ResourceRequirement) → every (onBoard b) (companionsOf (resourceAt b i)) ≡ true → Sound (withCompanions b (resourceAt b i) (q .usage))
   companions-kept q =
       let n : length (resourcesOf b) ≡ b .len = length-take-le (b .len) (b .resources) (all-there b v) in
-      subst (Kept b a ready q) (getD-take (b .len) (b .resources) i noResource l) (each-at (Kept b a ready q) noResource (resourcesOf b) (all-kept b v a ready q) i (omega arith))
+      subst (KeepsRules b a ready q) (getD-take (b .len) (b .resources) i noResource l) (each-at (KeepsRules b a ready q) noResource (resourcesOf b) (all-kept b v a ready q) i (omega arith))
 
 -- a start lies at the instant asked from, or by 2^42
 start-by : (b : Board) (r : Resource) (usage : ℕ) (resumable : Bool) (span from s : ℕ) → (every (onBoard b) (companionsOf r) ≡ true → Sound (withCompanions b r usage))

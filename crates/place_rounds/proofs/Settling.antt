@@ -12,17 +12,17 @@ use Rattle.calendar.specs.Limits.{lastAsked}
 use Rattle.cells.specs.Laws.Basics.{not-both}
 use Rattle.activity.specs.declared.Activity.{Activity}
 use Rattle.activity.specs.Check.{requirementsOf, activityRefusal}
-use Rattle.activity.proofs.Judging.{accepted}
+use Rattle.activity.specs.Laws.Judging.{accepted}
 use Rattle.board.specs.declared.Board.{Board}
 use Rattle.board.specs.Valid.{valid}
 use Rattle.scheduler.specs.declared.Selection.{Selection}
 use Rattle.scheduler.specs.Choosing as scheduler
 use Rattle.scheduler.specs.Selections.{noSelection, heldOf, heldTo, OnPlaces}
-use Rattle.scheduler.specs.Counting.{instants-few, instants-fall}
+use Rattle.scheduler.specs.Theorems.Counting.{instants-few, instants-fall}
 use Rattle.cells.specs.Laws.Arrays.{each-at}
 use Rattle.cells.specs.Every.{Each}
 use Rattle.cells.specs.Laws.Each.{each-weaken, each-in-map}
-use Rattle.scheduler.specs.Rounds.{greatest-le}
+use Rattle.scheduler.specs.Laws.Rounds.{greatest-le}
 use Rattle.place_rounds.specs.declared.Selections.{Selections}
 use Rattle.place_rounds.specs.declared.Rounds.{Rounds}
 use Rattle.place_rounds.specs.Rounds.{Led, Fewer, roundOf, choiceOf, Lasting, Chosen, Settled}

@@ -14,8 +14,7 @@ use Rattle.scheduler.specs.Alone.{durationAlone}
 use Rattle.scheduler.specs.Choosing as scheduler
 use Rattle.scheduler.specs.Selections.{noSelection, heldTo, OnPlaces}
 use Rattle.cells.specs.Every.{Each}
-use Rattle.scheduler.specs.Events.{above}
-use Rattle.scheduler.specs.Ruled.{points}
+use Rattle.scheduler.specs.Instants.{above, points}
 use Rattle.place_plans.specs.declared.Plan.{Plan}
 use Rattle.place_plans.specs.Plans.{Planned}
 use Rattle.place_rounds.specs.Tables.{foundAt, requirementAt}

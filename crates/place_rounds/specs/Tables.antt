@@ -13,7 +13,7 @@ use Rattle.activity.specs.Check.{noRequirement, activityRefusal}
 use Rattle.board.specs.declared.Board.{Board}
 use Rattle.board.specs.Resources.{resourceAt}
 use Rattle.board.specs.Valid.{valid}
-use Rattle.scheduler.specs.Answering.{served}
+use Rattle.scheduler.specs.Alone.{served}
 use Rattle.place_plans.specs.declared.Plan.{Plan}
 use Rattle.place_plans.specs.Plans.{Planned}
 

@@ -21,10 +21,10 @@ use Rattle.scheduler.specs.Selections.{noSelection, heldOf, heldTo, OnPlaces}
 use Rattle.cells.specs.Every.{Each}
 use Rattle.cells.specs.Laws.Each.{each-all, each-append, each-in-map}
 use Rattle.cells.specs.Laws.Arrays.{each-at, each-cells}
-use Rattle.scheduler.specs.Chosen.{Chooses}
-use Rattle.scheduler.specs.Plain.{enough, heldAt}
-use Rattle.scheduler.specs.Meaning.{choosing-means, some-of-each}
-use Rattle.scheduler.specs.Reported.{held-at-whole, entries-on}
+use Rattle.scheduler.specs.Plain.{Chooses, enough, heldAt}
+use Rattle.scheduler.specs.Theorems.Meaning.{choosing-means}
+use Rattle.scheduler.specs.Laws.Closing.{some-of-each}
+use Rattle.scheduler.specs.Laws.Reported.{held-at-whole, entries-on}
 use Rattle.place_entries.specs.Cells.{noEntry}
 use Rattle.place_fit.specs.Closing.{EntriesOn}
 

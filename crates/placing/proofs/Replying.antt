@@ -9,15 +9,16 @@ use Rattle.activity.specs.declared.ResourceRequirement.{ResourceRequirement}
 use Rattle.activity.specs.declared.Activity.{Activity}
 use Rattle.activity.specs.Ready.{readyOf}
 use Rattle.activity.specs.Check.{requirementsOf, activityRefusal}
-use Rattle.activity.proofs.Judging.{accepted, accepted-is}
-use Rattle.activity.proofs.Meaning.{ready-range}
+use Rattle.activity.specs.Laws.Judging.{accepted, accepted-is}
+use Rattle.activity.specs.Theorems.Meaning.{ready-range}
 use Rattle.board.specs.declared.Board.{Board}
 use Rattle.scheduler.specs.declared.Entry.{Entry}
 use Rattle.scheduler.specs.Alone.{spanOf}
 use Rattle.scheduler.specs.Choosing.{Held, Choice, noChoice, chosen, choosing}
 use Rattle.scheduler.specs.Fitting.{entriesOf, spanTogether}
 use Rattle.scheduler.specs.Placing.{none, refused, fitted, fitChosen, timeOnly, byRequirements, placing, placeRefusal, placeReply}
-use Rattle.calendar.specs.Refusals.{refusedOr, refused-by}
+use Rattle.calendar.specs.Refusals.{refusedOr}
+use Rattle.calendar.specs.Laws.Refusals.{refused-by}
 use Rattle.scheduler.specs.Selections.{heldTo}
 use Rattle.place_rounds.specs.declared.Choice as code
 use Rattle.place_rounds.specs.Rounds.{choiceOf}

@@ -24,7 +24,7 @@ use Rattle.placing.specs.Told.{told}
 use Rattle.placing.specs.declared.Placement.the-variants.{Placed, ChosenNone}
 
 -- a start and its end as a reply
-unfoldable replyFrom : ℕ → List Entry → asking.Reply → Reply
+unfoldable replyFrom : ℕ → List Entry → asking.AskReply → Reply
 replyFrom t es (asking.fit s e) = placed t s e es
 replyFrom t es asking.none = chosenNone t
 replyFrom t es (asking.refused n) = chosenNone t
@@ -47,7 +47,7 @@ all-right b a ready slate e =
     (not-false (valid b) (or-left _ _ (x .0)), not-false (calendar.valid (a .calendar)) (or-right (not (valid b)) _ (x .0)), ltb-false slate 24 (y .0), y .1)
 
 -- what the closing fit answers is the definition's reply
-module _ (b : Board) (a : Activity) (span t : ℕ) (es : List Entry) (n : ℕ) (long : length es ≡ n) (r : asking.Reply) (e : r ≡ closing (a .resumable) (sharesOf b es) (a .calendar) span t) (slate : List (List ℕ)) where
+module _ (b : Board) (a : Activity) (span t : ℕ) (es : List Entry) (n : ℕ) (long : length es ≡ n) (r : asking.AskReply) (e : r ≡ closing (a .resumable) (sharesOf b es) (a .calendar) span t) (slate : List (List ℕ)) where
   fitted-is : fitted b a span t es ≡ replyFrom t es r
   unfolding fitted closing
   fitted-is = sym (ap (replyFrom t es) e ∙ closing-reply a (sharesOf b es) span t es (fitting (a .resumable) (sharesOf b es) (a .calendar) span t))

@@ -1,3 +1,3 @@
 -- How the code tells the reply of placing, and demand 3 for two calls.
 pub mod Told
-pub mod Calls
+pub mod Theorems

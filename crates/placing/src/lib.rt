@@ -36,7 +36,7 @@ fn write(slate: &mut [[u64; 4]], e: Entries)
 }
 
 // The refusal of a placing, 0 for none, the board being right or not.
-fn refusal_of(right: bool, a: Activity, ready: u64, slate: usize) -> u8
+fn place_refusal(right: bool, a: Activity, ready: u64, slate: usize) -> u8
     ensures { λ r. ⌜ ((b : declared.Board) → right ≡ valid b → r ≡ placeRefusal b a ready slate) ⌝ }
 {
     if !right {
@@ -59,7 +59,7 @@ pub fn place_activity(b: Board, a: Activity, ready: u64, slate: &mut [[u64; 4]])
     ensures { λ _. ⌜ now (slate .exit) ≡ slateAfter (placeReply b a ready (length (now (slate .entry)))) (now (slate .entry)) ⌝ }
 {
     let p = board_rules::places_of(b);
-    let refusal = refusal_of(p.right, a, ready, slate.len());
+    let refusal = place_refusal(p.right, a, ready, slate.len());
     if refusal != 0 {
         return Placement::Refused(refusal);
     }

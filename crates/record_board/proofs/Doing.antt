@@ -12,19 +12,19 @@ use Rattle.timeline.specs.declared.ResourceTimeline.{ResourceTimeline}
 use Rattle.timeline.specs.Diary.{newDiary}
 use Rattle.record_bodies.specs.Numbers.{little}
 use Rattle.record_diary_text.specs.Lines.{lineOf}
-use Rattle.record_diary.specs.declared.Stepped as records
+use Rattle.record_diary.specs.declared.DiaryStepped as records
 use Rattle.record_diary.specs.Records.{steppedOf, recordDoes}
 use Rattle.board.specs.declared.Board.{Board}
 use Rattle.board.specs.declared.Entered.{Entered}
 use Rattle.board.specs.Enter.{addResourceReply, setMatrixReply, setTransitionReply, setInitialReply, setTransportReply}
 use Rattle.record_desk.specs.declared.Desk.{Desk}
-use Rattle.record_board.specs.declared.Stepped.{Stepped}
+use Rattle.record_board.specs.declared.DeskStepped.{DeskStepped}
 use Rattle.record_board.specs.declared.order.Ordered.{Ordered}
 use Rattle.record_bodies.specs.Bodies.{byte}
 use Rattle.record_board.specs.Orders.{orderDoes, partReply}
 use Rattle.record_board.specs.Records.{signed, refusalOf, diaryTold, diaryDoes, added, addDoes, entryReply, entered, ordered, stepReply}
 
-pub diary-told : (d : Desk) (s : records.Stepped) (n k : ℕ) (bs : List ℕ) (i : ℕ) → n ≡ refusalOf (lineOf (s .line)) → steppedOf s ≡ recordDoes (d .timeline) k bs i
+pub diary-told : (d : Desk) (s : records.DiaryStepped) (n k : ℕ) (bs : List ℕ) (i : ℕ) → n ≡ refusalOf (lineOf (s .line)) → steppedOf s ≡ recordDoes (d .timeline) k bs i
     → record { desk = record { timeline = s .timeline; activity = d .activity; board = d .board }; refusal = n } ≡ diaryDoes d k bs i
 unfolding diaryDoes diaryTold steppedOf
 diary-told d s n k bs i a b = rw (← b, a) refl
@@ -38,7 +38,7 @@ pub add-taken : (d : Desk) (e : Entered) (t : ResourceTimeline) → e .refusal �
 unfolding added
 add-taken d e t h f = rw (eq-eqb (e .refusal) 0 h, ← f) refl
 
-pub does-add : (d : Desk) (bs : List ℕ) (i n m skills : ℕ) (e : Entered) (s : Stepped) → m ≡ n → skills ≡ little bs (i + 2) 8
+pub does-add : (d : Desk) (bs : List ℕ) (i n m skills : ℕ) (e : Entered) (s : DeskStepped) → m ≡ n → skills ≡ little bs (i + 2) 8
     → e ≡ addResourceReply (d .board) (byte bs i) (byte bs (i + 1)) skills (take m (drop (i + 11) bs)) (d .timeline) → s ≡ added d e → s ≡ addDoes d bs i n
 unfolding addDoes
 does-add d bs i n m skills e s q l f g = rw (← q, ← l, ← f) g
@@ -71,11 +71,11 @@ module _ (b : Board) (k : ℕ) (bs : List ℕ) (i : ℕ) (e : Entered) where
 
 -- a record, by its kind
 module _ (d : Desk) (k : ℕ) (bs : List ℕ) (i : ℕ) where
-  pub steps-diary : (s : Stepped) → k ≤ 4 → s ≡ diaryDoes d k bs i → s ≡ stepReply d k bs i
+  pub steps-diary : (s : DeskStepped) → k ≤ 4 → s ≡ diaryDoes d k bs i → s ≡ stepReply d k bs i
   unfolding stepReply
   steps-diary s h e = rw (le-leb k 4 h) e
 
-  pub steps-add : (s : Stepped) (n : ℕ) → k ≡ 16 → n ≡ byte bs (i + 10) → s ≡ addDoes d bs i n → s ≡ stepReply d k bs i
+  pub steps-add : (s : DeskStepped) (n : ℕ) → k ≡ 16 → n ≡ byte bs (i + 10) → s ≡ addDoes d bs i n → s ≡ stepReply d k bs i
   unfolding stepReply
   steps-add s n h m e =
       let o : leb k 4 ≡ false = lt-leb k 4 (omega arith) in
@@ -85,7 +85,7 @@ module _ (d : Desk) (k : ℕ) (bs : List ℕ) (i : ℕ) where
   unfolding stepReply
   steps-entry e l h m f = rw (lt-leb k 4 l, ne-eqb k 16 h, le-leb k 20 m, ← f) refl
 
-  pub steps-order : (s : Stepped) → k ≡ 21 → s ≡ orderDoes d bs i → s ≡ stepReply d k bs i
+  pub steps-order : (s : DeskStepped) → k ≡ 21 → s ≡ orderDoes d bs i → s ≡ stepReply d k bs i
   unfolding stepReply
   steps-order s h e =
       let o : leb k 4 ≡ false = lt-leb k 4 (omega arith) in

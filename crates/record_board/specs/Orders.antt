@@ -18,7 +18,7 @@ use Rattle.activity.specs.declared.Release.{Release}
 use Rattle.activity.specs.declared.Release.the-variants.{Absent, At}
 use Rattle.activity.specs.declared.Activity.{Activity}
 use Rattle.record_desk.specs.declared.Desk.{Desk}
-use Rattle.record_board.specs.declared.Stepped.{Stepped}
+use Rattle.record_board.specs.declared.DeskStepped.{DeskStepped}
 use Rattle.record_board.specs.declared.order.Ordered.{Ordered}
 use Rattle.record_desk.specs.Desk.{orderWith}
 use Rattle.record_bodies.specs.Bodies.{byte}
@@ -44,7 +44,7 @@ abbrev pub flagAbove : List ℕ → ℕ → Bool
 flagAbove bs i = ltb 1 (byte bs (i + 25)) || (ltb 1 (byte bs (i + 26)) || ltb 1 (byte bs (i + 37)))
 
 -- a flag above 1: 9; where the calendar was taken, the diary in hand is empty again
-unfoldable pub orderDoes : Desk → List ℕ → ℕ → Stepped
+unfoldable pub orderDoes : Desk → List ℕ → ℕ → DeskStepped
 orderDoes d bs i =
     cond (flagAbove bs i) (record { desk = d; refusal = 9 })
     (record {

@@ -14,7 +14,7 @@ use Rattle.board.specs.declared.Board.{Board}
 use Rattle.board.specs.declared.Entered.{Entered}
 use Rattle.board.specs.Enter.{addResourceReply, setMatrixReply, setTransitionReply, setInitialReply, setTransportReply}
 use Rattle.record_desk.specs.declared.Desk.{Desk}
-use Rattle.record_board.specs.declared.Stepped.{Stepped}
+use Rattle.record_board.specs.declared.DeskStepped.{DeskStepped}
 use Rattle.record_board.specs.declared.order.Ordered.{Ordered}
 use Rattle.record_bodies.specs.Bodies.{byte}
 use Rattle.record_board.specs.Orders.{orderDoes, partReply}
@@ -30,21 +30,21 @@ refusalOf (line (fit s e)) = 0
 refusalOf (line none) = 0
 refusalOf (line (refused n)) = n
 
-unfoldable pub diaryTold : Desk → Done → Stepped
+unfoldable pub diaryTold : Desk → Done → DeskStepped
 diaryTold d r = record { desk = record { timeline = r .timeline; activity = d .activity; board = d .board }; refusal = refusalOf (r .prints) }
 
 -- as in `slot`, on the diary in hand
-unfoldable pub diaryDoes : Desk → ℕ → List ℕ → ℕ → Stepped
+unfoldable pub diaryDoes : Desk → ℕ → List ℕ → ℕ → DeskStepped
 diaryDoes d kind bs i = diaryTold d (recordDoes (d .timeline) kind bs i)
 
 -- accepted, the diary in hand is empty again
-unfoldable pub added : Desk → Entered → Stepped
+unfoldable pub added : Desk → Entered → DeskStepped
 added d e =
     cond (eqb (e .refusal) 0) (record { desk = record { timeline = newDiary (pos 1); activity = d .activity; board = e .board }; refusal = 0 })
     (record { desk = d; refusal = e .refusal })
 
 -- number (1), type (1), skills (8), count (1), then that many companions (1 each)
-unfoldable pub addDoes : Desk → List ℕ → ℕ → ℕ → Stepped
+unfoldable pub addDoes : Desk → List ℕ → ℕ → ℕ → DeskStepped
 addDoes d bs i count =
     added d (addResourceReply (d .board) (byte bs i) (byte bs (i + 1)) (little bs (i + 2) 8) (take count (drop (i + 11) bs)) (d .timeline))
 
@@ -57,14 +57,14 @@ entryReply b kind bs i =
     (cond (eqb kind 19) (setInitialReply b (byte bs i) (byte bs (i + 1)) (signed (little bs (i + 2) 8)))
     (setTransportReply b (byte bs i) (byte bs (i + 1)) (little bs (i + 2) 8))))
 
-abbrev pub entered : Desk → Entered → Stepped
+abbrev pub entered : Desk → Entered → DeskStepped
 entered d e = record { desk = record { timeline = d .timeline; activity = d .activity; board = e .board }; refusal = e .refusal }
 
-abbrev pub ordered : Desk → Ordered → Stepped
+abbrev pub ordered : Desk → Ordered → DeskStepped
 ordered d o = record { desk = record { timeline = d .timeline; activity = o .activity; board = d .board }; refusal = o .refusal }
 
 -- a record of a known kind, its body beginning at index i
-unfoldable pub stepReply : Desk → ℕ → List ℕ → ℕ → Stepped
+unfoldable pub stepReply : Desk → ℕ → List ℕ → ℕ → DeskStepped
 stepReply d kind bs i =
     cond (leb kind 4) (diaryDoes d kind bs i)
     (cond (eqb kind 16) (addDoes d bs i (byte bs (i + 10)))

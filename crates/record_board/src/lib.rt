@@ -1,10 +1,10 @@
 // What a record of a stream does to a diary in hand, an order in hand and a board (docs/RECORDS.md, kinds 1 to 4 and 16 to 24).
 use board::Board;
 use board::Entered;
+use record_bodies::number;
 use record_bodies::wide;
 use record_desk::Desk;
 use record_diary_text::Line;
-use record_bodies::number;
 use timeline::ResourceTimeline;
 
 mod order;
@@ -17,7 +17,7 @@ ghost use Rattle.record_bodies.specs.Bodies.{diaryLen, fixedLen, lenOf};
 ghost use Rattle.record_board.specs.Records.{signed as signedOf, refusalOf, diaryDoes, addDoes, entryReply, stepReply};
 
 // What a record does: what is in hand afterwards, and the refusal's number, 0 for none. 9 ends the stream.
-pub struct Stepped {
+pub struct DeskStepped {
     pub desk: Desk,
     pub refusal: u8,
 }
@@ -32,7 +32,7 @@ fn signed(bits: u64) -> i64
     -1 - (u64::MAX - bits) as i64
 }
 
-fn refusal_of(line: Line) -> u8
+fn line_refusal(line: Line) -> u8
     ensures { λ r. ⌜ r ≡ refusalOf (lineOf line) ⌝ }
 {
     match line {
@@ -44,24 +44,24 @@ fn refusal_of(line: Line) -> u8
 }
 
 // Kinds 1 to 4: as in `slot`, on the diary in hand.
-fn on_diary(desk: Desk, kind: u8, bytes: &[u8], at: usize) -> Stepped
+fn on_diary(desk: Desk, kind: u8, bytes: &[u8], at: usize) -> DeskStepped
     requires { ⌜ (0 < diaryLen kind) × (at + diaryLen kind ≤ length (now bytes)) ⌝ }
     ensures { λ r. ⌜ r ≡ diaryDoes desk kind (now (bytes .entry)) at ⌝ }
 {
     let s = record_diary::step(desk.timeline, kind, bytes, at);
     let t = s.timeline;
     let line = s.line;
-    let refusal = refusal_of(line);
+    let refusal = line_refusal(line);
     let mut d = desk;
     d.timeline = t;
-    Stepped {
+    DeskStepped {
         desk: d,
         refusal: refusal,
     }
 }
 
 // Kind 16: the diary in hand goes to the board, and an empty one is in hand.
-fn add(desk: Desk, bytes: &[u8], at: usize, count: usize) -> Stepped
+fn add(desk: Desk, bytes: &[u8], at: usize, count: usize) -> DeskStepped
     requires { ⌜ at + 11 + count ≤ length (now bytes) ⌝ }
     ensures { λ r. ⌜ r ≡ addDoes desk (now (bytes .entry)) at count ⌝ }
 {
@@ -75,7 +75,7 @@ fn add(desk: Desk, bytes: &[u8], at: usize, count: usize) -> Stepped
         desk.timeline,
     );
     if e.refusal != 0 {
-        return Stepped {
+        return DeskStepped {
             desk: desk,
             refusal: e.refusal,
         };
@@ -85,7 +85,7 @@ fn add(desk: Desk, bytes: &[u8], at: usize, count: usize) -> Stepped
     let mut d = desk;
     d.timeline = new;
     d.board = b;
-    Stepped {
+    DeskStepped {
         desk: d,
         refusal: 0,
     }
@@ -115,7 +115,7 @@ fn entry(board: Board, kind: u8, bytes: &[u8], at: usize) -> Entered
 }
 
 // What one record of a known kind does, its body beginning at `at`. A refused record changes nothing.
-pub fn step(desk: Desk, kind: u8, bytes: &[u8], at: usize) -> Stepped
+pub fn step(desk: Desk, kind: u8, bytes: &[u8], at: usize) -> DeskStepped
     requires { ⌜ (0 < lenOf kind (now bytes) at) × (at + lenOf kind (now bytes) at ≤ length (now bytes)) ⌝ }
     ensures { λ r. ⌜ r ≡ stepReply desk kind (now (bytes .entry)) at ⌝ }
 {
@@ -130,7 +130,7 @@ pub fn step(desk: Desk, kind: u8, bytes: &[u8], at: usize) -> Stepped
         let b = e.board;
         let mut d = desk;
         d.board = b;
-        return Stepped {
+        return DeskStepped {
             desk: d,
             refusal: e.refusal,
         };
@@ -142,7 +142,7 @@ pub fn step(desk: Desk, kind: u8, bytes: &[u8], at: usize) -> Stepped
     let a = o.activity;
     let mut d = desk;
     d.activity = a;
-    Stepped {
+    DeskStepped {
         desk: d,
         refusal: o.refusal,
     }

@@ -1,5 +1,5 @@
 // The order in hand: a new one, its requirements and its timings (docs/RECORDS.md, kinds 21 to 24). Its values are taken unchecked.
-use crate::Stepped;
+use crate::DeskStepped;
 use activity::Activity;
 use activity::ActivityDuration;
 use activity::Release;
@@ -7,9 +7,9 @@ use activity::ResourceRequirement;
 use activity::ResourceTiming;
 use activity::Timed;
 use calendar::Calendar;
+use record_bodies::number;
 use record_desk::Desk;
 use record_desk::order_with;
-use record_bodies::number;
 use timeline::ResourceTimeline;
 ghost use mathlib.Core.Path.{_≡_};
 ghost use Prim.Native.Nat.{_+_, _≤_};
@@ -80,12 +80,12 @@ fn order_by(bytes: &[u8], at: usize, calendar: Calendar) -> Activity
 }
 
 // Kind 21: a new order in hand. Where it takes the diary's calendar, an empty diary is in hand afterwards. A flag above 1: 9.
-pub fn new_order(desk: Desk, bytes: &[u8], at: usize) -> Stepped
+pub fn new_order(desk: Desk, bytes: &[u8], at: usize) -> DeskStepped
     requires { ⌜ at + 38 ≤ length (now bytes) ⌝ }
     ensures { λ r. ⌜ r ≡ orderDoes desk (now (bytes .entry)) at ⌝ }
 {
     if flag_above(bytes, at) {
-        return Stepped {
+        return DeskStepped {
             desk: desk,
             refusal: 9,
         };
@@ -95,7 +95,7 @@ pub fn new_order(desk: Desk, bytes: &[u8], at: usize) -> Stepped
         let none = Calendar::new();
         let a = order_by(bytes, at, none);
         d.activity = a;
-        return Stepped {
+        return DeskStepped {
             desk: d,
             refusal: 0,
         };
@@ -106,7 +106,7 @@ pub fn new_order(desk: Desk, bytes: &[u8], at: usize) -> Stepped
     let new = ResourceTimeline::new(1);
     d.timeline = new;
     d.activity = a;
-    Stepped {
+    DeskStepped {
         desk: d,
         refusal: 0,
     }

@@ -13,10 +13,10 @@ use Rattle.timeline.specs.declared.ResourceTimeline.{ResourceTimeline}
 use Rattle.timeline.specs.declared.Booked.{Booked}
 use Rattle.timeline.specs.Diary.{newDiary}
 use Rattle.timeline.specs.Book.{bookReply, calendarReply}
-use Rattle.timeline.specs.Ask.{Reply, refused, fitReply, resumableReply}
+use Rattle.timeline.specs.Ask.{AskReply, refused, fitReply, resumableReply}
 use Rattle.record_diary_text.specs.declared.Line.{Line}
-use Rattle.record_diary.specs.declared.Stepped.{Stepped}
-use Rattle.record_diary.specs.declared.Turn.{Turn}
+use Rattle.record_diary.specs.declared.DiaryStepped.{DiaryStepped}
+use Rattle.record_diary.specs.declared.DiaryTurn.{DiaryTurn}
 use Rattle.record_diary_text.specs.declared.Line.the-variants.{Nothing, Refused}
 use Rattle.record_diary_text.specs.Lines.{nothing, line, lineOf}
 use Rattle.record_bodies.specs.Numbers.{little}
@@ -39,7 +39,7 @@ pub renewed : (t d : ResourceTimeline) (n : ℕ) → n ≤ 2147483647 → d ≡ 
 unfolding steppedOf capacityReply lineOf
 renewed t d n h e = rw (le-ltb (2 ^ 31 - 1) n h, e)
 
-pub answers : (t : ResourceTimeline) (l : Line) (r : Reply) → lineOf l ≡ line r → steppedOf (record { timeline = t; line = l }) ≡ asks t r
+pub answers : (t : ResourceTimeline) (l : Line) (r : AskReply) → lineOf l ≡ line r → steppedOf (record { timeline = t; line = l }) ≡ asks t r
 unfolding steppedOf asks
 answers t l r e = rw e
 
@@ -73,7 +73,7 @@ module _ (t : ResourceTimeline) (k : ℕ) (bs : List ℕ) (i : ℕ) (d : Done) w
       let r : eqb k 3 ≡ false = ne-eqb k 3 (λ z. omega arith) in
       rw (o, p, r, eq-eqb k 4 q, ← l, ← m, ← n, ← f) e
 
-  pub does-fit : (x y u : ℕ) (a : Reply) → k ≡ 5 → x ≡ little bs i 8 → y ≡ little bs (i + 8) 8 → u ≡ little bs (i + 16) 4 → a ≡ fitReply t x y u → d ≡ asks t a
+  pub does-fit : (x y u : ℕ) (a : AskReply) → k ≡ 5 → x ≡ little bs i 8 → y ≡ little bs (i + 8) 8 → u ≡ little bs (i + 16) 4 → a ≡ fitReply t x y u → d ≡ asks t a
       → d ≡ recordDoes t k bs i
   unfolding recordDoes
   does-fit x y u a q l m n f e =
@@ -83,13 +83,13 @@ module _ (t : ResourceTimeline) (k : ℕ) (bs : List ℕ) (i : ℕ) (d : Done) w
       let s : eqb k 4 ≡ false = ne-eqb k 4 (λ z. omega arith) in
       rw (o, p, r, s, eq-eqb k 5 q, ← l, ← m, ← n, ← f) e
 
-  pub does-resumable : (x y u : ℕ) (a : Reply) → (k ≡ 1 → ⊥) → (k ≡ 2 → ⊥) → (k ≡ 3 → ⊥) → (k ≡ 4 → ⊥) → (k ≡ 5 → ⊥) → x ≡ little bs i 8
+  pub does-resumable : (x y u : ℕ) (a : AskReply) → (k ≡ 1 → ⊥) → (k ≡ 2 → ⊥) → (k ≡ 3 → ⊥) → (k ≡ 4 → ⊥) → (k ≡ 5 → ⊥) → x ≡ little bs i 8
       → y ≡ little bs (i + 8) 8 → u ≡ little bs (i + 16) 4 → a ≡ resumableReply t x y u → d ≡ asks t a → d ≡ recordDoes t k bs i
   unfolding recordDoes
   does-resumable x y u a o p r s v l m n f e = rw (ne-eqb k 1 o, ne-eqb k 2 p, ne-eqb k 3 r, ne-eqb k 4 s, ne-eqb k 5 v, ← l, ← m, ← n, ← f) e
 
 -- the stream ends
-pub turn-ends : (r : Turn) (t : ResourceTimeline) (l : Line) (i : ℕ) → r .timeline ≡ t → r .line ≡ l → r .at ≡ i → r .more ≡ false → turnOf r ≡ ends t (lineOf l) i
+pub turn-ends : (r : DiaryTurn) (t : ResourceTimeline) (l : Line) (i : ℕ) → r .timeline ≡ t → r .line ≡ l → r .at ≡ i → r .more ≡ false → turnOf r ≡ ends t (lineOf l) i
 unfolding turnOf
 turn-ends r t l i a b d e = rw (a, b, d, e)
 
@@ -106,7 +106,7 @@ module _ (t : ResourceTimeline) (bs : List ℕ) (i n : ℕ) where
   unfolding turnReply
   turn-cut d h l m e = rw (lt-leb n i h, ne-eqb (diaryLen (getD bs i 0)) 0 l, le-leb (n - i) (diaryLen (getD bs i 0)) m) e
 
-  pub turn-goes : (s : Stepped) (m : ℕ) → m ≡ diaryLen (getD bs i 0) → i < n → (m ≡ 0 → ⊥) → m < n - i → steppedOf s ≡ recordDoes t (getD bs i 0) bs (i + 1)
+  pub turn-goes : (s : DiaryStepped) (m : ℕ) → m ≡ diaryLen (getD bs i 0) → i < n → (m ≡ 0 → ⊥) → m < n - i → steppedOf s ≡ recordDoes t (getD bs i 0) bs (i + 1)
       → turnOf (record { timeline = s .timeline; line = s .line; at = i + 1 + m; more = true }) ≡ turnReply t bs i n
   unfolding turnReply turnOf steppedOf
   turn-goes s m q h l o e =

@@ -1,4 +1,4 @@
 -- Document 01, 'Program slot', in its order.
 pub mod Records
 pub mod Stream
-pub mod Runs
+pub mod Theorems

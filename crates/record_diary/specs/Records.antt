@@ -10,9 +10,9 @@ use Rattle.timeline.specs.declared.ResourceTimeline.{ResourceTimeline}
 use Rattle.timeline.specs.declared.Booked.{Booked}
 use Rattle.timeline.specs.Diary.{newDiary}
 use Rattle.timeline.specs.Book.{bookReply, calendarReply}
-use Rattle.timeline.specs.Ask.{Reply, refused, fitReply, resumableReply}
-use Rattle.record_diary.specs.declared.Stepped.{Stepped}
-use Rattle.record_diary.specs.declared.Turn.{Turn}
+use Rattle.timeline.specs.Ask.{AskReply, refused, fitReply, resumableReply}
+use Rattle.record_diary.specs.declared.DiaryStepped.{DiaryStepped}
+use Rattle.record_diary.specs.declared.DiaryTurn.{DiaryTurn}
 use Rattle.record_bodies.specs.Bodies.{diaryLen}
 use Rattle.record_bodies.specs.Numbers.{little}
 use Rattle.record_diary_text.specs.Lines.{Printed, nothing, line, lineOf}
@@ -30,7 +30,7 @@ pub record Done : Type 0 where
   pub timeline : ResourceTimeline
   pub prints : Printed
 
-unfoldable pub steppedOf : Stepped → Done
+unfoldable pub steppedOf : DiaryStepped → Done
 steppedOf s = record { timeline = s .timeline; prints = lineOf (s .line) }
 
 -- a new diary; a capacity above 2^31 - 1 is refused 1
@@ -44,7 +44,7 @@ unfoldable pub books : Booked → Done
 books b = record { timeline = b .timeline; prints = cond (eqb (b .refusal) 0) nothing (line (refused (b .refusal))) }
 
 -- an ask: its reply prints, and the diary stays
-unfoldable pub asks : ResourceTimeline → Reply → Done
+unfoldable pub asks : ResourceTimeline → AskReply → Done
 asks t r = record { timeline = t; prints = line r }
 
 -- a record of a known kind, its body beginning at index i
@@ -63,7 +63,7 @@ pub record Turned : Type 0 where
   pub at : ℕ
   pub more : Bool
 
-unfoldable pub turnOf : Turn → Turned
+unfoldable pub turnOf : DiaryTurn → Turned
 turnOf r = record { done = record { timeline = r .timeline; prints = lineOf (r .line) }; at = r .at; more = r .more }
 
 abbrev pub ends : ResourceTimeline → Printed → ℕ → Turned

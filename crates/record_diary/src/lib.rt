@@ -1,9 +1,9 @@
 // What a record of a stream does to a diary and what it prints (01, 'Program slot'). Everything that `slot` decides is here.
-use timeline_asks::Answer;
-use record_diary_text::Line;
 use record_bodies::number;
+use record_diary_text::Line;
 use timeline::Booked;
 use timeline::ResourceTimeline;
+use timeline_asks::Answer;
 ghost use mathlib.Core.Path.{_≡_};
 ghost use Prim.Native.Nat.{_+_, _≤_, _<_};
 ghost use lib.ListN.{length};
@@ -14,13 +14,13 @@ ghost use Rattle.record_diary.specs.Records.{steppedOf, turnOf, capacity
 ghost use Rattle.timeline_asks.specs.Answers.{replyOf};
 
 // What a record does: the diary afterwards, and what it prints.
-pub struct Stepped {
+pub struct DiaryStepped {
     pub timeline: ResourceTimeline,
     pub line: Line,
 }
 
 // A record read from a run of bytes: what it did, where the next one begins, and whether to go on.
-pub struct Turn {
+pub struct DiaryTurn {
     pub timeline: ResourceTimeline,
     pub line: Line,
     pub at: usize,
@@ -28,45 +28,45 @@ pub struct Turn {
 }
 
 // Kind 1: a new diary, or 1 for a capacity above 2^31 - 1.
-fn renew(timeline: ResourceTimeline, capacity: u64) -> Stepped
+fn renew(timeline: ResourceTimeline, capacity: u64) -> DiaryStepped
     ensures { λ r. ⌜ steppedOf r ≡ capacityReply timeline capacity ⌝ }
 {
     if capacity > 2147483647 {
-        return Stepped {
+        return DiaryStepped {
             timeline: timeline,
             line: Line::Refused(1),
         };
     }
     let new = ResourceTimeline::new(capacity as i32);
-    Stepped {
+    DiaryStepped {
         timeline: new,
         line: Line::Nothing,
     }
 }
 
 // Kinds 2 to 4: only a refusal prints.
-fn told(b: Booked) -> Stepped
+fn told(b: Booked) -> DiaryStepped
     ensures { λ r. ⌜ steppedOf r ≡ books b ⌝ }
 {
     let t = b.timeline;
     if b.refusal == 0 {
-        return Stepped {
+        return DiaryStepped {
             timeline: t,
             line: Line::Nothing,
         };
     }
-    Stepped {
+    DiaryStepped {
         timeline: t,
         line: Line::Refused(b.refusal),
     }
 }
 
 // Kinds 5 and 6: the reply prints, and the diary stays.
-fn asked(timeline: ResourceTimeline, a: Answer) -> Stepped
+fn asked(timeline: ResourceTimeline, a: Answer) -> DiaryStepped
     ensures { λ r. ⌜ steppedOf r ≡ asks timeline (replyOf a) ⌝ }
 {
     let line = line_of(a);
-    Stepped {
+    DiaryStepped {
         timeline: timeline,
         line: line,
     }
@@ -83,7 +83,7 @@ fn line_of(a: Answer) -> Line
 }
 
 // What one record of a known kind does, its body beginning at `at`.
-pub fn step(timeline: ResourceTimeline, kind: u8, bytes: &[u8], at: usize) -> Stepped
+pub fn step(timeline: ResourceTimeline, kind: u8, bytes: &[u8], at: usize) -> DiaryStepped
     requires { ⌜ (0 < diaryLen kind) × (at + diaryLen kind ≤ length (now bytes)) ⌝ }
     ensures { λ r. ⌜ steppedOf r ≡ recordDoes timeline kind (now (bytes .entry)) at ⌝ }
 {
@@ -103,7 +103,10 @@ pub fn step(timeline: ResourceTimeline, kind: u8, bytes: &[u8], at: usize) -> St
         return told(timeline.book(first, second, units));
     }
     if kind == 5 {
-        return asked(timeline, timeline_asks::earliest_fit(timeline, first, second, units));
+        return asked(
+            timeline,
+            timeline_asks::earliest_fit(timeline, first, second, units),
+        );
     }
     asked(
         timeline,
@@ -112,10 +115,10 @@ pub fn step(timeline: ResourceTimeline, kind: u8, bytes: &[u8], at: usize) -> St
 }
 
 // The stream ends here, and prints the line.
-fn last(timeline: ResourceTimeline, line: Line, at: usize) -> Turn
+fn last(timeline: ResourceTimeline, line: Line, at: usize) -> DiaryTurn
     ensures { λ r. ⌜ (r .timeline ≡ timeline) × (r .line ≡ line) × (r .at ≡ at) × (r .more ≡ false) ⌝ }
 {
-    Turn {
+    DiaryTurn {
         timeline: timeline,
         line: line,
         at: at,
@@ -125,7 +128,7 @@ fn last(timeline: ResourceTimeline, line: Line, at: usize) -> Turn
 
 // The record that begins at `at`, `len` being the end of the input: nothing where the input ends here, 9 for an unknown kind or a
 // cut body.
-pub fn record(timeline: ResourceTimeline, bytes: &[u8], at: usize, len: usize) -> Turn
+pub fn record(timeline: ResourceTimeline, bytes: &[u8], at: usize, len: usize) -> DiaryTurn
     requires { ⌜ (at ≤ len) × (len ≤ length (now bytes)) ⌝ }
     ensures { λ r. ⌜ turnOf r ≡ turnReply timeline (now (bytes .entry)) at len ⌝ }
     ensures { λ r. ⌜ r .at ≤ len ⌝ }
@@ -144,7 +147,7 @@ pub fn record(timeline: ResourceTimeline, bytes: &[u8], at: usize, len: usize) -
     let s = step(timeline, kind, bytes, at + 1);
     let t = s.timeline;
     let line = s.line;
-    Turn {
+    DiaryTurn {
         timeline: t,
         line: line,
         at: at + 1 + n,

@@ -1,7 +1,7 @@
 -- 01, 'Program slot': what a record prints, and its bytes.
 use Prim.Native.Nat.{ℕ}
 use mathlib.Core.List.{List, [], _∷_, _++_}
-use Rattle.timeline.specs.Ask.{Reply, fit, none, refused}
+use Rattle.timeline.specs.Ask.{AskReply, fit, none, refused}
 use Rattle.record_diary_text.specs.declared.Line.{Line}
 use Rattle.record_diary_text.specs.declared.Line.the-variants.{Nothing, Fit, None, Refused}
 use Rattle.record_texts.specs.Text.{decimal}
@@ -9,7 +9,7 @@ use Rattle.record_texts.specs.Text.{decimal}
 -- nothing, or a line: `fit START END`, `none`, `refused N`
 pub data Printed : Type 0 where
   nothing : Printed
-  line : Reply → Printed
+  line : AskReply → Printed
 
 unfoldable pub lineOf : Line → Printed
 lineOf Nothing = nothing

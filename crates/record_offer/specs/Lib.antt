@@ -1,4 +1,3 @@
 -- What a record does in `offer` (docs/RECORDS.md), that a refused one changes nothing, and small runs on the definitions.
 pub mod Offers
-pub mod Meaning
-pub mod Runs
+pub mod Theorems

@@ -1,11 +1,11 @@
 // What a record of a stream does in `offer` (docs/RECORDS.md, kinds 1 to 4 and 16 to 26): to a diary in hand, an order in hand, a board
 // and a slate.
-use record_board::Stepped;
+use placing::Placement;
+use record_board::DeskStepped;
 use record_board::step;
 use record_bodies::body_len;
-use record_desk::Desk;
-use placing::Placement;
 use record_bodies::number;
+use record_desk::Desk;
 ghost use mathlib.Core.Path.{_≡_};
 ghost use Prim.Native.Nat.{_+_, _≤_};
 ghost use lib.ListN.{length};
@@ -13,7 +13,7 @@ ghost use Rattle.scheduler.specs.Placing.{slateAfter};
 ghost use Rattle.record_offer.specs.Offers.{offerLen, answerOf, placing as placingOf, placedAnswer, commitDoes, told as toldOf, ends, shown, turnReply, slateReply};
 
 // What a record answers; `Nothing` prints nothing. A placement: choosing instant, start, end, and how many entries stand on the slate.
-pub enum Answer {
+pub enum OfferAnswer {
     Nothing,
     Placed(u64, u64, u64, usize),
     Chosen(u64),
@@ -23,9 +23,9 @@ pub enum Answer {
 }
 
 // A record read from a run of bytes: what is in hand, what it answered, where the next one begins, and whether to go on.
-pub struct Turn {
+pub struct OfferTurn {
     pub desk: Desk,
-    pub answer: Answer,
+    pub answer: OfferAnswer,
     pub at: usize,
     pub more: bool,
 }
@@ -46,24 +46,24 @@ fn offer_len(kind: u8, bytes: &[u8], at: usize, len: usize) -> usize
 }
 
 // What placing answers.
-fn answer_of(p: Placement) -> Answer
+fn answer_of(p: Placement) -> OfferAnswer
     ensures { λ r. ⌜ r ≡ answerOf p ⌝ }
 {
     match p {
-        Placement::Placed(choosing, start, end, count) => Answer::Placed(
+        Placement::Placed(choosing, start, end, count) => OfferAnswer::Placed(
             choosing,
             start,
             end,
             count,
         ),
-        Placement::ChosenNone(choosing) => Answer::Chosen(choosing),
-        Placement::None => Answer::None,
-        Placement::Refused(n) => Answer::Refused(n),
+        Placement::ChosenNone(choosing) => OfferAnswer::Chosen(choosing),
+        Placement::None => OfferAnswer::None,
+        Placement::Refused(n) => OfferAnswer::Refused(n),
     }
 }
 
 // Kind 25: places the order in hand, on the slate.
-fn place(desk: Desk, slate: &mut [[u64; 4]], bytes: &[u8], at: usize) -> Answer
+fn place(desk: Desk, slate: &mut [[u64; 4]], bytes: &[u8], at: usize) -> OfferAnswer
     requires { ⌜ at + 8 ≤ length (now bytes) ⌝ }
     ensures { λ r. ⌜ r ≡ placedAnswer desk (now (slate .entry)) (now (bytes .entry)) at ⌝ }
     ensures { λ _. ⌜ now (slate .exit) ≡ slateAfter (placingOf desk (now (slate .entry)) (now (bytes .entry)) at) (now (slate .entry)) ⌝ }
@@ -74,7 +74,7 @@ fn place(desk: Desk, slate: &mut [[u64; 4]], bytes: &[u8], at: usize) -> Answer
 }
 
 // Kind 26: commits the first entries of the slate, with the order's category.
-fn commit(desk: Desk, slate: &[[u64; 4]], bytes: &[u8], at: usize) -> Stepped
+fn commit(desk: Desk, slate: &[[u64; 4]], bytes: &[u8], at: usize) -> DeskStepped
     requires { ⌜ at + 20 ≤ length (now bytes) ⌝ }
     ensures { λ r. ⌜ r ≡ commitDoes desk (now (slate .entry)) (now (bytes .entry)) at ⌝ }
 {
@@ -86,17 +86,17 @@ fn commit(desk: Desk, slate: &[[u64; 4]], bytes: &[u8], at: usize) -> Stepped
     let b = e.board;
     let mut d = desk;
     d.board = b;
-    Stepped {
+    DeskStepped {
         desk: d,
         refusal: e.refusal,
     }
 }
 
 // The stream ends here with this answer.
-fn last(desk: Desk, answer: Answer, at: usize) -> Turn
+fn last(desk: Desk, answer: OfferAnswer, at: usize) -> OfferTurn
     ensures { λ r. ⌜ r ≡ ends desk answer at ⌝ }
 {
-    Turn {
+    OfferTurn {
         desk: desk,
         answer: answer,
         at: at,
@@ -105,21 +105,21 @@ fn last(desk: Desk, answer: Answer, at: usize) -> Turn
 }
 
 // A refusal is told in place of the answer, and 9 ends the stream.
-fn told(s: Stepped, answer: Answer, at: usize) -> Turn
+fn told(s: DeskStepped, answer: OfferAnswer, at: usize) -> OfferTurn
     ensures { λ r. ⌜ r ≡ toldOf s answer at ⌝ }
 {
     let d = s.desk;
     if s.refusal == 0 {
-        return Turn {
+        return OfferTurn {
             desk: d,
             answer: answer,
             at: at,
             more: true,
         };
     }
-    Turn {
+    OfferTurn {
         desk: d,
-        answer: Answer::Refused(s.refusal),
+        answer: OfferAnswer::Refused(s.refusal),
         at: at,
         more: s.refusal != 9,
     }
@@ -127,22 +127,22 @@ fn told(s: Stepped, answer: Answer, at: usize) -> Turn
 
 // The record that begins at `at`, `len` being the end of the input: nothing where the input ends here, 9 for an unknown kind or a
 // cut body.
-pub fn record(desk: Desk, slate: &mut [[u64; 4]], bytes: &[u8], at: usize, len: usize) -> Turn
+pub fn record(desk: Desk, slate: &mut [[u64; 4]], bytes: &[u8], at: usize, len: usize) -> OfferTurn
     requires { ⌜ (at ≤ len) × (len ≤ length (now bytes)) ⌝ }
     ensures { λ r. ⌜ (r ≡ turnReply desk (now (slate .entry)) (now (bytes .entry)) at len) × (r .at ≤ len) ⌝ }
     ensures { λ r. ⌜ (now (slate .exit) ≡ slateReply desk (now (slate .entry)) (now (bytes .entry)) at len) × (shown (r .answer) ≤ length (now (slate .exit))) ⌝ }
 {
     if at == len {
-        return last(desk, Answer::Nothing, at);
+        return last(desk, OfferAnswer::Nothing, at);
     }
     let kind = bytes[at];
     let n = offer_len(kind, bytes, at + 1, len);
     if n == 0 {
-        return last(desk, Answer::Refused(9), at);
+        return last(desk, OfferAnswer::Refused(9), at);
     }
     if kind == 25 {
         let answer = place(desk, slate, bytes, at + 1);
-        return Turn {
+        return OfferTurn {
             desk: desk,
             answer: answer,
             at: at + 1 + n,
@@ -152,9 +152,13 @@ pub fn record(desk: Desk, slate: &mut [[u64; 4]], bytes: &[u8], at: usize, len: 
     if kind == 26 {
         return told(
             commit(desk, slate, bytes, at + 1),
-            Answer::Committed,
+            OfferAnswer::Committed,
             at + 1 + n,
         );
     }
-    told(step(desk, kind, bytes, at + 1), Answer::Nothing, at + 1 + n)
+    told(
+        step(desk, kind, bytes, at + 1),
+        OfferAnswer::Nothing,
+        at + 1 + n,
+    )
 }

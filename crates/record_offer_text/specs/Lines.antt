@@ -5,8 +5,8 @@ use lib.ListN.{getD, take}
 use Rattle.record_texts.specs.Text.{decimal}
 use Rattle.timeline.specs.Ask.{none, refused}
 use Rattle.record_diary_text.specs.Lines as slot
-use Rattle.record_offer.specs.declared.Answer.{Answer}
-use Rattle.record_offer.specs.declared.Answer.the-variants.{Nothing, Placed, Chosen, None, Committed, Refused}
+use Rattle.record_offer.specs.declared.OfferAnswer.{OfferAnswer}
+use Rattle.record_offer.specs.declared.OfferAnswer.the-variants.{Nothing, Placed, Chosen, None, Committed, Refused}
 use Rattle.record_offer.specs.Offers.{shown}
 
 -- a space and a number
@@ -32,7 +32,7 @@ entriesText [] = []
 entriesText (row ∷ rows) = entryText row ++ entriesText rows
 
 -- `none` and `refused N` as in `slot`; `committed`
-unfoldable pub lineText : Answer → List ℕ
+unfoldable pub lineText : OfferAnswer → List ℕ
 lineText Nothing = []
 lineText (Placed t s e n) = placedText t s e n
 lineText (Chosen t) = chosenText t
@@ -41,5 +41,5 @@ lineText Committed = 99 ∷ 111 ∷ 109 ∷ 109 ∷ 105 ∷ 116 ∷ 116 ∷ 101 
 lineText (Refused n) = slot.textOf (slot.line (refused n))
 
 -- the line, and behind a placement's its entries
-unfoldable pub textOf : Answer → List (List ℕ) → List ℕ
+unfoldable pub textOf : OfferAnswer → List (List ℕ) → List ℕ
 textOf a slate = lineText a ++ entriesText (take (shown a) slate)

@@ -1,7 +1,7 @@
 // The text that an answer of `offer` prints (docs/RECORDS.md): its line and, behind a placement's, a line for each entry of the slate
 // that it speaks of.
-use record_offer::Answer;
 use record_diary_text::Line;
+use record_offer::OfferAnswer;
 use record_texts::put;
 use record_texts::put_value;
 ghost use mathlib.Core.Path.{_≡_};
@@ -66,14 +66,14 @@ fn put_chosen(out: &mut [u8], at: usize, choosing: u64) -> usize
 }
 
 // The line of an answer.
-fn put_line(out: &mut [u8], at: usize, answer: Answer) -> usize
+fn put_line(out: &mut [u8], at: usize, answer: OfferAnswer) -> usize
     requires { ⌜ at + 91 ≤ length (now out) ⌝ }
     ensures { λ r. ⌜ Put (now (out .entry)) at (lineText answer) (now (out .exit)) r ⌝ }
     ensures { λ r. ⌜ r ≤ at + 91 ⌝ }
 {
     match answer {
-        Answer::Nothing => at,
-        Answer::Placed(choosing, start, end, count) => put_placed(
+        OfferAnswer::Nothing => at,
+        OfferAnswer::Placed(choosing, start, end, count) => put_placed(
             out,
             at,
             choosing,
@@ -81,29 +81,29 @@ fn put_line(out: &mut [u8], at: usize, answer: Answer) -> usize
             end,
             count,
         ),
-        Answer::Chosen(choosing) => put_chosen(out, at, choosing),
-        Answer::None => record_diary_text::text(Line::None, out, at),
-        Answer::Committed => put(out, at, b"committed\n"),
-        Answer::Refused(n) => record_diary_text::text(Line::Refused(n), out, at),
+        OfferAnswer::Chosen(choosing) => put_chosen(out, at, choosing),
+        OfferAnswer::None => record_diary_text::text(Line::None, out, at),
+        OfferAnswer::Committed => put(out, at, b"committed\n"),
+        OfferAnswer::Refused(n) => record_diary_text::text(Line::Refused(n), out, at),
     }
 }
 
 // How many entries of the slate an answer speaks of.
-fn shown(answer: Answer) -> usize
+fn shown(answer: OfferAnswer) -> usize
     ensures { λ r. ⌜ r ≡ shownOf answer ⌝ }
 {
     match answer {
-        Answer::Nothing => 0,
-        Answer::Placed(choosing, start, end, count) => count,
-        Answer::Chosen(choosing) => 0,
-        Answer::None => 0,
-        Answer::Committed => 0,
-        Answer::Refused(n) => 0,
+        OfferAnswer::Nothing => 0,
+        OfferAnswer::Placed(choosing, start, end, count) => count,
+        OfferAnswer::Chosen(choosing) => 0,
+        OfferAnswer::None => 0,
+        OfferAnswer::Committed => 0,
+        OfferAnswer::Refused(n) => 0,
     }
 }
 
 // Puts all that an answer prints, at most 2,251 bytes, into out from `at` on, and answers where it ends.
-pub fn text(answer: Answer, slate: &[[u64; 4]], out: &mut [u8], at: usize) -> usize
+pub fn text(answer: OfferAnswer, slate: &[[u64; 4]], out: &mut [u8], at: usize) -> usize
     requires { ⌜ (shownOf answer ≤ length (now slate)) × (shownOf answer ≤ 24) × (at + 2251 ≤ length (now out)) ⌝ }
     ensures { λ r. ⌜ Put (now (out .entry)) at (textOf answer (now (slate .entry))) (now (out .exit)) r ⌝ }
     ensures { λ r. ⌜ r ≤ at + 2251 ⌝ }

@@ -22,18 +22,19 @@ use Rattle.board.specs.Setups.{setupMs}
 use Rattle.board.specs.Transport.{greatestTransport}
 use Rattle.board.specs.Places.{anywhere, placeOf}
 use Rattle.board.specs.Valid.{valid, lastRight}
-use Rattle.board.proofs.Facts.{rules}
-use Rattle.board.proofs.Seeing.{lookup-below}
-use Rattle.board.proofs.Meaning.{transport-is}
+use Rattle.board.specs.Laws.Facts.{rules}
+use Rattle.board.specs.Laws.Seeing.{lookup-below}
+use Rattle.board.specs.Theorems.Meaning.{transport-is}
 use Rattle.record_desk.specs.declared.Desk.{Desk}
-use Rattle.record_board.specs.declared.Stepped.{Stepped}
-use Rattle.record_queries.specs.declared.Turn.{Turn}
+use Rattle.record_board.specs.declared.DeskStepped.{DeskStepped}
+use Rattle.record_queries.specs.declared.QueryTurn.{QueryTurn}
 use Rattle.board_numbers.specs.declared.PlaceFor.{PlaceFor}
 use Rattle.board_numbers.specs.Entry.{entryAt, entryFor}
 use Rattle.board_numbers.proofs.Standing.{on-small}
-use Rattle.calendar.specs.Refusals.{refusedOr, refused-by}
-use Rattle.record_queries.specs.declared.Answer.{Answer}
-use Rattle.record_queries.specs.declared.Answer.the-variants.{Nothing as Silent, Setup, Transport, Serves, No, Refused}
+use Rattle.calendar.specs.Refusals.{refusedOr}
+use Rattle.calendar.specs.Laws.Refusals.{refused-by}
+use Rattle.record_queries.specs.declared.QueryAnswer.{QueryAnswer}
+use Rattle.record_queries.specs.declared.QueryAnswer.the-variants.{Nothing as Silent, Setup, Transport, Serves, No, Refused}
 use Rattle.record_bodies.specs.Bodies.{byte, fixedLen, lenOf, whole, bodyLen}
 use Rattle.record_bodies.proofs.Lengths.{unknown, of-fixed, there}
 use Rattle.record_board.specs.Records.{stepReply}
@@ -62,10 +63,10 @@ module _ (b : Board) (number : ℕ) where
           record { number-refusal = rw (v, g) refl; rules-kept = λ z. v; stands = λ z. g; low = λ z. (l, omega (arith, on-small b number v (rw g refl))) }
 
   -- the refusal of a number, then the rest
-  refused-place : (r : PlaceFor) (rest : Answer) → Located b number r → (r .refusal ≡ 0 → ⊥) → Refused (r .refusal) ≡ refusedOr Refused (placeRefusal b number) rest
+  refused-place : (r : PlaceFor) (rest : QueryAnswer) → Located b number r → (r .refusal ≡ 0 → ⊥) → Refused (r .refusal) ≡ refusedOr Refused (placeRefusal b number) rest
   refused-place r rest q h = rw (← q .number-refusal) (refused-by Refused (r .refusal) rest h)
 
-  taken-place : (r : PlaceFor) (a rest : Answer) → Located b number r → r .refusal ≡ 0 → a ≡ rest → a ≡ refusedOr Refused (placeRefusal b number) rest
+  taken-place : (r : PlaceFor) (a rest : QueryAnswer) → Located b number r → r .refusal ≡ 0 → a ≡ rest → a ≡ refusedOr Refused (placeRefusal b number) rest
   unfolding refusedOr
   taken-place r a rest q h e = rw (sym (q .number-refusal) ∙ h) e
 
@@ -149,7 +150,7 @@ ask-some k l h =
     (eq-or-lt-of-le l)
 
 -- an ask, by its kind
-module _ (d : Desk) (k : ℕ) (bs : List ℕ) (i : ℕ) (a : Answer) where
+module _ (d : Desk) (k : ℕ) (bs : List ℕ) (i : ℕ) (a : QueryAnswer) where
   pub asks-lasting : (n : ℕ) (h : List ℕ) (r : DurationReply) → k ≡ 40 → n ≡ byte bs i → h ≡ heldAt bs (i + 1) → r ≡ durationReply (d .activity) h n → a ≡ durationLine r
       → a ≡ askReply d k bs i
   unfolding askReply
@@ -183,29 +184,29 @@ module _ (k : ℕ) (bs : List ℕ) (i n r : ℕ) where
   unfolding runLen
   run-ask h e = rw (ne-eqb (askLen k) 0 h) e
 
-pub told-taken : (s : Stepped) (i : ℕ) → s .refusal ≡ 0 → record { desk = s .desk; answer = Silent; at = i; more = true } ≡ told s i
+pub told-taken : (s : DeskStepped) (i : ℕ) → s .refusal ≡ 0 → record { desk = s .desk; answer = Silent; at = i; more = true } ≡ told s i
 unfolding told
 told-taken s i h = rw (eq-eqb (s .refusal) 0 h) refl
 
-pub told-refused : (s : Stepped) (i : ℕ) → (s .refusal ≡ 0 → ⊥) → record { desk = s .desk; answer = Refused (s .refusal); at = i; more = not (eqb (s .refusal) 9) } ≡ told s i
+pub told-refused : (s : DeskStepped) (i : ℕ) → (s .refusal ≡ 0 → ⊥) → record { desk = s .desk; answer = Refused (s .refusal); at = i; more = not (eqb (s .refusal) 9) } ≡ told s i
 unfolding told
 told-refused s i h = rw (ne-eqb (s .refusal) 0 h) refl
 
 -- where the next record begins
-pub told-at : (t : Turn) (s : Stepped) (i : ℕ) → t ≡ told s i → t .at ≡ i
+pub told-at : (t : QueryTurn) (s : DeskStepped) (i : ℕ) → t ≡ told s i → t .at ≡ i
 unfolding told
-told-at t s i e = ap (λ (x : Turn). x .at) e ∙ go (eqb (s .refusal) 0)
+told-at t s i e = ap (λ (x : QueryTurn). x .at) e ∙ go (eqb (s .refusal) 0)
   where
-    after : Bool → Turn
+    after : Bool → QueryTurn
     after q = cond q (record { desk = s .desk; answer = Silent; at = i; more = true }) (record { desk = s .desk; answer = Refused (s .refusal); at = i; more = not (eqb (s .refusal) 9) })
 
     go : (q : Bool) → after q .at ≡ i
     go true = refl
     go false = refl
 
-pub ends-at : (t : Turn) (d : Desk) (a : Answer) (i : ℕ) → t ≡ ends d a i → t .at ≡ i
+pub ends-at : (t : QueryTurn) (d : Desk) (a : QueryAnswer) (i : ℕ) → t ≡ ends d a i → t .at ≡ i
 unfolding ends
-ends-at t d a i e = ap (λ (x : Turn). x .at) e
+ends-at t d a i e = ap (λ (x : QueryTurn). x .at) e
 
 -- what is read is there: a record's body, and an ask's
 module _ (k : ℕ) (bs : List ℕ) (i n m : ℕ) (l : i ≤ n) (e : m ≡ runLen k bs i n) (z : m ≡ 0 → ⊥) where
@@ -236,7 +237,7 @@ module _ (k : ℕ) (bs : List ℕ) (i n m : ℕ) (l : i ≤ n) (e : m ≡ runLen
       (lt-or-ge k 44)
 
 -- a record, by the four ways in which it is read
-module _ (d : Desk) (bs : List ℕ) (i n : ℕ) (t : Turn) where
+module _ (d : Desk) (bs : List ℕ) (i n : ℕ) (t : QueryTurn) where
   pub turn-none : n ≤ i → t ≡ ends d Silent i → t ≡ turnReply d bs i n
   unfolding turnReply
   turn-none h e = rw (le-leb n i h) e
@@ -245,12 +246,12 @@ module _ (d : Desk) (bs : List ℕ) (i n : ℕ) (t : Turn) where
   unfolding turnReply
   turn-unknown m h f z e = rw (lt-leb n i h, ← f, eq-eqb m 0 z) e
 
-  pub turn-told : (m : ℕ) (s : Stepped) → i < n → m ≡ runLen (byte bs i) bs (i + 1) n → (m ≡ 0 → ⊥) → byte bs i < 40 → s ≡ stepReply d (byte bs i) bs (i + 1)
+  pub turn-told : (m : ℕ) (s : DeskStepped) → i < n → m ≡ runLen (byte bs i) bs (i + 1) n → (m ≡ 0 → ⊥) → byte bs i < 40 → s ≡ stepReply d (byte bs i) bs (i + 1)
       → t ≡ told s (i + 1 + m) → t ≡ turnReply d bs i n
   unfolding turnReply
   turn-told m s h f z k g e = rw (lt-leb n i h, ← f, ne-eqb m 0 z, lt-ltb (byte bs i) 40 k, ← g) e
 
-  pub turn-asked : (m : ℕ) (a : Answer) → i < n → m ≡ runLen (byte bs i) bs (i + 1) n → (m ≡ 0 → ⊥) → 40 ≤ byte bs i → a ≡ askReply d (byte bs i) bs (i + 1)
+  pub turn-asked : (m : ℕ) (a : QueryAnswer) → i < n → m ≡ runLen (byte bs i) bs (i + 1) n → (m ≡ 0 → ⊥) → 40 ≤ byte bs i → a ≡ askReply d (byte bs i) bs (i + 1)
       → t ≡ record { desk = d; answer = a; at = i + 1 + m; more = true } → t ≡ turnReply d bs i n
   unfolding turnReply
   turn-asked m a h f z k g e = rw (lt-leb n i h, ← f, ne-eqb m 0 z, le-ltb (byte bs i) 40 k, ← g) e

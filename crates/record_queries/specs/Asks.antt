@@ -18,10 +18,10 @@ use Rattle.board.specs.Setups.{setupMs}
 use Rattle.board.specs.Transport.{transportTo}
 use Rattle.board.specs.Valid.{valid}
 use Rattle.record_desk.specs.declared.Desk.{Desk}
-use Rattle.record_board.specs.declared.Stepped.{Stepped}
-use Rattle.record_queries.specs.declared.Turn.{Turn}
-use Rattle.record_queries.specs.declared.Answer.{Answer}
-use Rattle.record_queries.specs.declared.Answer.the-variants.{Nothing as Silent, Lasts, Setup, Transport, Serves, No, Refused}
+use Rattle.record_board.specs.declared.DeskStepped.{DeskStepped}
+use Rattle.record_queries.specs.declared.QueryTurn.{QueryTurn}
+use Rattle.record_queries.specs.declared.QueryAnswer.{QueryAnswer}
+use Rattle.record_queries.specs.declared.QueryAnswer.the-variants.{Nothing as Silent, Lasts, Setup, Transport, Serves, No, Refused}
 use Rattle.record_bodies.specs.Bodies.{byte, whole, bodyLen}
 use Rattle.record_board.specs.Records.{stepReply}
 
@@ -29,7 +29,7 @@ use Rattle.record_board.specs.Records.{stepReply}
 unfoldable pub placeRefusal : Board → ℕ → ℕ
 placeRefusal b number = cond (not (valid b)) 15 (cond (not (onBoard b number)) 5 0)
 
-unfoldable pub durationLine : DurationReply → Answer
+unfoldable pub durationLine : DurationReply → QueryAnswer
 durationLine (lasts d) = Lasts (d .setup) (d .process) (d .teardown)
 durationLine (refused n) = Refused n
 
@@ -38,17 +38,17 @@ unfoldable pub lastOf : ℕ → LastCategory
 lastOf category = cond (ltb 15 category) Nothing (Category category)
 
 -- 5 a category above 15; 1 a setup above 2^36
-unfoldable pub setupReply : Board → ℕ → ℕ → ℕ → ℕ → Answer
+unfoldable pub setupReply : Board → ℕ → ℕ → ℕ → ℕ → QueryAnswer
 setupReply b number last category own =
     refusedOr Refused (placeRefusal b number)
     (cond (ltb 15 category) (Refused 5)
     (cond (ltb longestDuration own) (Refused 1)
     (Setup (setupMs (resourceAt b (placeOf (lookup b number)) .matrix) (lastOf last) category own))))
 
-unfoldable pub transportReply : Board → ℕ → ℕ → Answer
+unfoldable pub transportReply : Board → ℕ → ℕ → QueryAnswer
 transportReply b origins to = refusedOr Refused (placeRefusal b to) (Transport (transportTo b origins to))
 
-unfoldable pub servesReply : Board → ResourceRequirement → ℕ → Answer
+unfoldable pub servesReply : Board → ResourceRequirement → ℕ → QueryAnswer
 servesReply b q number =
     refusedOr Refused (placeRefusal b number)
     (cond (serves q number (resourceAt b (placeOf (lookup b number)) .kind) (resourceAt b (placeOf (lookup b number)) .skills)) Serves No)
@@ -66,7 +66,7 @@ askLen kind = cond (eqb kind 40) 9 (cond (eqb kind 41) 11 (cond (eqb kind 42) 3 
 abbrev requirementOf : List ℕ → ℕ → ResourceRequirement
 requirementOf bs i = record { kind = byte bs i; candidates = little bs (i + 1) 2; skills = little bs (i + 3) 8; quantity = 1; usage = 1 }
 
-unfoldable pub askReply : Desk → ℕ → List ℕ → ℕ → Answer
+unfoldable pub askReply : Desk → ℕ → List ℕ → ℕ → QueryAnswer
 askReply d kind bs i =
     cond (eqb kind 40) (durationLine (durationReply (d .activity) (heldAt bs (i + 1)) (byte bs i)))
     (cond (eqb kind 41) (setupReply (d .board) (byte bs i) (byte bs (i + 1)) (byte bs (i + 2)) (little bs (i + 3) 8))
@@ -78,16 +78,16 @@ unfoldable pub runLen : ℕ → List ℕ → ℕ → ℕ → ℕ
 runLen kind bs i n = cond (eqb (askLen kind) 0) (bodyLen kind bs i n) (whole (n - i) (askLen kind))
 
 -- a refusal is told, and 9 ends the stream
-unfoldable pub told : Stepped → ℕ → Turn
+unfoldable pub told : DeskStepped → ℕ → QueryTurn
 told s i =
     cond (eqb (s .refusal) 0) (record { desk = s .desk; answer = Silent; at = i; more = true })
     (record { desk = s .desk; answer = Refused (s .refusal); at = i; more = not (eqb (s .refusal) 9) })
 
-unfoldable pub ends : Desk → Answer → ℕ → Turn
+unfoldable pub ends : Desk → QueryAnswer → ℕ → QueryTurn
 ends d answer i = record { desk = d; answer = answer; at = i; more = false }
 
 -- the record that begins at index i, the input ending at index n
-unfoldable pub turnReply : Desk → List ℕ → ℕ → ℕ → Turn
+unfoldable pub turnReply : Desk → List ℕ → ℕ → ℕ → QueryTurn
 turnReply d bs i n =
     cond (leb n i) (ends d Silent i)
     (cond (eqb (runLen (byte bs i) bs (i + 1) n) 0) (ends d (Refused 9) i)

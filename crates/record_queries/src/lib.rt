@@ -4,13 +4,13 @@ use activity::DurationAnswer;
 use activity::ResourceRequirement;
 use board::Board;
 use board::LastCategory;
-use record_board::Stepped;
+use calendar::limits::LONGEST_DURATION;
+use record_board::DeskStepped;
 use record_board::step;
 use record_bodies::body_len;
-use record_bodies::wide;
-use calendar::limits::LONGEST_DURATION;
-use record_desk::Desk;
 use record_bodies::number;
+use record_bodies::wide;
+use record_desk::Desk;
 ghost use mathlib.Core.Path.{_≡_};
 ghost use mathlib.Core.Bool.{true};
 ghost use Prim.Native.Nat.{_+_, _≤_, _<_};
@@ -20,7 +20,7 @@ ghost use Rattle.board.specs.Valid.{lastRight};
 ghost use Rattle.record_queries.specs.Asks.{heldAt, lastOf, durationLine, setupReply, transportReply, servesReply, askLen, askReply, told as toldOf, ends, runLen, turnReply};
 
 // What a record answers; `Nothing` prints nothing.
-pub enum Answer {
+pub enum QueryAnswer {
     Nothing,
     Lasts(u64, u64, u64),
     Setup(u64),
@@ -30,12 +30,12 @@ pub enum Answer {
     Refused(u8),
 }
 
-fn lasting(a: DurationAnswer) -> Answer
+fn lasting(a: DurationAnswer) -> QueryAnswer
     ensures { λ r. ⌜ r ≡ durationLine (replyOf a) ⌝ }
 {
     match a {
-        DurationAnswer::Lasts(d) => Answer::Lasts(d.setup, d.process, d.teardown),
-        DurationAnswer::Refused(n) => Answer::Refused(n),
+        DurationAnswer::Lasts(d) => QueryAnswer::Lasts(d.setup, d.process, d.teardown),
+        DurationAnswer::Refused(n) => QueryAnswer::Refused(n),
     }
 }
 
@@ -51,54 +51,54 @@ fn last_of(category: u8) -> LastCategory
 
 // The setup of a category behind another on the resource of this number: 15 the board, 5 the number or the category, 1 a setup above
 // 2^36.
-fn setup(board: Board, number: u8, last: u8, category: u8, own: u64) -> Answer
+fn setup(board: Board, number: u8, last: u8, category: u8, own: u64) -> QueryAnswer
     ensures { λ r. ⌜ r ≡ setupReply board number last category own ⌝ }
 {
     let p = board_numbers::entry_for(board, number);
     if p.refusal != 0 {
-        return Answer::Refused(p.refusal);
+        return QueryAnswer::Refused(p.refusal);
     }
     if category > 15 {
-        return Answer::Refused(5);
+        return QueryAnswer::Refused(5);
     }
     if own > LONGEST_DURATION {
-        return Answer::Refused(1);
+        return QueryAnswer::Refused(1);
     }
     let i = p.place;
     let r = board.resources[i];
     let m = r.matrix;
     let before = last_of(last);
     let ms = board_setups::setup_ms(m, before, category, own);
-    Answer::Setup(ms)
+    QueryAnswer::Setup(ms)
 }
 
 // The transport to the resource of this number: 15 the board, 5 the number.
-fn transport(board: Board, origins: u16, to: u8) -> Answer
+fn transport(board: Board, origins: u16, to: u8) -> QueryAnswer
     ensures { λ r. ⌜ r ≡ transportReply board origins to ⌝ }
 {
     let p = board_numbers::entry_for(board, to);
     if p.refusal != 0 {
-        return Answer::Refused(p.refusal);
+        return QueryAnswer::Refused(p.refusal);
     }
     let cells = board.transport;
     let ms = board_setups::transport_between(&cells, origins, to);
-    Answer::Transport(ms)
+    QueryAnswer::Transport(ms)
 }
 
 // Whether the resource of this number serves: 15 the board, 5 the number.
-fn serves(board: Board, requirement: ResourceRequirement, number: u8) -> Answer
+fn serves(board: Board, requirement: ResourceRequirement, number: u8) -> QueryAnswer
     ensures { λ r. ⌜ r ≡ servesReply board requirement number ⌝ }
 {
     let p = board_numbers::entry_for(board, number);
     if p.refusal != 0 {
-        return Answer::Refused(p.refusal);
+        return QueryAnswer::Refused(p.refusal);
     }
     let i = p.place;
     let r = board.resources[i];
     if activity::core::serves(requirement, number, r.kind, r.skills) {
-        return Answer::Serves;
+        return QueryAnswer::Serves;
     }
-    Answer::No
+    QueryAnswer::No
 }
 
 // The eight numbers from `at` on.
@@ -132,7 +132,7 @@ fn ask_len(kind: u8) -> usize
 }
 
 // What an ask answers, its body beginning at `at`.
-fn ask(desk: Desk, kind: u8, bytes: &[u8], at: usize) -> Answer
+fn ask(desk: Desk, kind: u8, bytes: &[u8], at: usize) -> QueryAnswer
     requires { ⌜ (40 ≤ kind) × (kind ≤ 43) × (at + askLen kind ≤ length (now bytes)) ⌝ }
     ensures { λ r. ⌜ r ≡ askReply desk kind (now (bytes .entry)) at ⌝ }
 {
@@ -161,18 +161,18 @@ fn ask(desk: Desk, kind: u8, bytes: &[u8], at: usize) -> Answer
 }
 
 // A record read from a run of bytes: what is in hand, what it answered, where the next one begins, and whether to go on.
-pub struct Turn {
+pub struct QueryTurn {
     pub desk: Desk,
-    pub answer: Answer,
+    pub answer: QueryAnswer,
     pub at: usize,
     pub more: bool,
 }
 
 // The stream ends here with this answer.
-fn last(desk: Desk, answer: Answer, at: usize) -> Turn
+fn last(desk: Desk, answer: QueryAnswer, at: usize) -> QueryTurn
     ensures { λ r. ⌜ r ≡ ends desk answer at ⌝ }
 {
-    Turn {
+    QueryTurn {
         desk: desk,
         answer: answer,
         at: at,
@@ -196,21 +196,21 @@ fn run_len(kind: u8, bytes: &[u8], at: usize, len: usize) -> usize
 }
 
 // A refusal is told, and 9 ends the stream.
-fn told(s: Stepped, at: usize) -> Turn
+fn told(s: DeskStepped, at: usize) -> QueryTurn
     ensures { λ r. ⌜ r ≡ toldOf s at ⌝ }
 {
     let d = s.desk;
     if s.refusal == 0 {
-        return Turn {
+        return QueryTurn {
             desk: d,
-            answer: Answer::Nothing,
+            answer: QueryAnswer::Nothing,
             at: at,
             more: true,
         };
     }
-    Turn {
+    QueryTurn {
         desk: d,
-        answer: Answer::Refused(s.refusal),
+        answer: QueryAnswer::Refused(s.refusal),
         at: at,
         more: s.refusal != 9,
     }
@@ -218,23 +218,23 @@ fn told(s: Stepped, at: usize) -> Turn
 
 // The record that begins at `at`, `len` being the end of the input: nothing where the input ends here, 9 for an unknown kind or a
 // cut body.
-pub fn record(desk: Desk, bytes: &[u8], at: usize, len: usize) -> Turn
+pub fn record(desk: Desk, bytes: &[u8], at: usize, len: usize) -> QueryTurn
     requires { ⌜ (at ≤ len) × (len ≤ length (now bytes)) ⌝ }
     ensures { λ r. ⌜ (r ≡ turnReply desk (now (bytes .entry)) at len) × (r .at ≤ len) ⌝ }
 {
     if at == len {
-        return last(desk, Answer::Nothing, at);
+        return last(desk, QueryAnswer::Nothing, at);
     }
     let kind = bytes[at];
     let n = run_len(kind, bytes, at + 1, len);
     if n == 0 {
-        return last(desk, Answer::Refused(9), at);
+        return last(desk, QueryAnswer::Refused(9), at);
     }
     if kind < 40 {
         return told(step(desk, kind, bytes, at + 1), at + 1 + n);
     }
     let answer = ask(desk, kind, bytes, at + 1);
-    Turn {
+    QueryTurn {
         desk: desk,
         answer: answer,
         at: at + 1 + n,

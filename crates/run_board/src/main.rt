@@ -1,14 +1,14 @@
 // Asks durations, setups, transports and servings of what a stream of records on standard input says, and writes the answers.
 // Kinds 1 to 4 and 16 to 24 are those of `offer`, 40 to 43 its own (tests/beside/README.md): it is run beside the Rust. It only reads and
 // writes; what a record does is in `record_board`, what an ask answers in `record_queries`.
-use record_queries::Answer;
-use record_queries::Turn;
 use record_desk::Desk;
+use record_queries::QueryAnswer;
+use record_queries::QueryTurn;
 use record_streams::Input;
 ghost use Prim.Native.Nat.{_≤_};
 
 // The next record.
-fn next(desk: Desk, buf: &[u8; 65536], at: usize, len: usize) -> Turn
+fn next(desk: Desk, buf: &[u8; 65536], at: usize, len: usize) -> QueryTurn
     requires { ⌜ (at ≤ len) × (len ≤ 65536) ⌝ }
     ensures { λ r. ⌜ r .at ≤ len ⌝ }
 {
@@ -22,33 +22,33 @@ fn value(n: u64) {
 }
 
 // The line that an answer prints.
-fn print(answer: Answer) {
+fn print(answer: QueryAnswer) {
     match answer {
-        Answer::Nothing => {}
-        Answer::Lasts(setup, process, teardown) => {
+        QueryAnswer::Nothing => {}
+        QueryAnswer::Lasts(setup, process, teardown) => {
             io::write_all(1, b"duration");
             value(setup);
             value(process);
             value(teardown);
             io::write_all(1, b"\n");
         }
-        Answer::Setup(ms) => {
+        QueryAnswer::Setup(ms) => {
             io::write_all(1, b"setup");
             value(ms);
             io::write_all(1, b"\n");
         }
-        Answer::Transport(ms) => {
+        QueryAnswer::Transport(ms) => {
             io::write_all(1, b"transport");
             value(ms);
             io::write_all(1, b"\n");
         }
-        Answer::Serves => {
+        QueryAnswer::Serves => {
             io::write_all(1, b"serves\n");
         }
-        Answer::No => {
+        QueryAnswer::No => {
             io::write_all(1, b"no\n");
         }
-        Answer::Refused(n) => {
+        QueryAnswer::Refused(n) => {
             io::write_all(1, b"refused");
             value(n as u64);
             io::write_all(1, b"\n");

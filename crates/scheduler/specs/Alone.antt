@@ -16,6 +16,7 @@ use Rattle.board.specs.declared.Board.{Board}
 use Rattle.board.specs.Resources.{noResource, resourceAt, lookup, onBoard}
 use Rattle.board.specs.Setups.{setupOn}
 use Rattle.board.specs.Transport.{transportTo}
+use Rattle.activity.specs.Serving.{serves}
 
 -- units wanted of a diary
 pub record Share : Type 0 where
@@ -79,3 +80,7 @@ startWith b r usage resumable span from =
 -- its least start from the later of t and its arrival
 unfoldable pub startAlone : Board → Activity → ℕ → ResourceRequirement → Resource → ℕ → Found
 startAlone b a ready q r t = startWith b r (q .usage) (a .resumable) (spanAlone a r) (max t (arrival b a ready r))
+
+-- what it answers to a requirement: nothing where it does not serve
+abbrev pub served : Board → Activity → ℕ → ResourceRequirement → Resource → ℕ → Found
+served b a ready q r t = cond (serves q (r .number) (r .kind) (r .skills)) (startAlone b a ready q r t) nothing

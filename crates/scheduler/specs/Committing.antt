@@ -1,5 +1,5 @@
 -- The reply of committing, and the board afterwards.
-use Prim.Native.Nat.{ℕ, _+_}
+use Prim.Native.Nat.{ℕ, _+_, _≤_, _<_}
 use mathlib.Core.Bool.{Bool, not, _&&_, _||_, cond}
 use mathlib.Core.List.{List, [], _∷_, map}
 use lib.ListN.{length, getD, take}
@@ -16,6 +16,8 @@ use Rattle.board.specs.Resources.{lookup, onBoard}
 use Rattle.board.specs.Valid as board
 use Rattle.board.specs.Enter.{entered, changed}
 use Rattle.scheduler.specs.Alone.{diaryOf}
+use mathlib.Core.Path.{_≡_}
+use Rattle.scheduler.specs.Alike.{AlikeDiary}
 
 -- what a commitment reads of a row of the slate: the resource, the units, and whether it is a companion (any word but 0)
 pub record Line : Type 0 where
@@ -78,3 +80,23 @@ bookAll start end category (l ∷ ls) b =
 unfoldable pub commitReply : Board → List (List ℕ) → ℕ → ℕ → ℕ → ℕ → Entered
 commitReply b slate count start end category =
     entered (commitRefusal b slate count start end category) b (bookAll start end category (linesOf count slate) b)
+
+-- what a commitment leaves of a resource, named or not: all but the bookings, each of which is kept, and the last category
+pub record Framed (r s : Resource) : Type 0 where
+  pub number-same : r .number ≡ s .number
+  pub kind-same : r .kind ≡ s .kind
+  pub skills-same : r .skills ≡ s .skills
+  pub companions-same : r .companions ≡ s .companions
+  pub count-same : r .count ≡ s .count
+  pub matrix-same : r .matrix ≡ s .matrix
+  pub diary-alike : AlikeDiary (r .timeline) (s .timeline)
+
+-- what is booked is in range
+pub record Bookable (start end category : ℕ) : Type 0 where
+  pub order : start < end
+  pub range : end ≤ lastInstant
+  pub category-range : category ≤ 15
+
+-- an entry that is no companion names the resource, and it has a matrix
+abbrev pub takesCategory : Resource → Line → Bool
+takesCategory r l = eqb (l .number) (r .number) && (r .matrix .present && not (l .companion))

@@ -1,7 +1,7 @@
 -- The choice without rounds, as the rule under the price list has it: the first instant when every line of the order has enough
 -- resources that can start at that instant itself, shorter processing first, then board order.
-use Prim.Native.Nat.{ℕ}
-use mathlib.Core.Bool.{Bool, true, _&&_, cond}
+use Prim.Native.Nat.{ℕ, _≤_}
+use mathlib.Core.Bool.{Bool, true, _&&_, cond, false}
 use mathlib.Core.List.{List, [], _∷_, _++_}
 use lib.ListN.{length}
 use lib.Dec.{leb}
@@ -13,7 +13,9 @@ use Rattle.board.specs.declared.Resource.{Resource}
 use Rattle.board.specs.declared.Board.{Board}
 use Rattle.board.specs.Resources.{resourcesOf, onBoard}
 use Rattle.scheduler.specs.Alone.{allStart, companionsOf, withCompanions, durationAlone, spanAlone, arrival}
-use Rattle.scheduler.specs.Choosing.{Candidate, sort, Held, holdFirst}
+use Rattle.scheduler.specs.Choosing.{Candidate, sort, Held, holdFirst, Choice, noChoice, chosen}
+use mathlib.Core.Path.{_≡_}
+use Rattle.calendar.specs.Search.{Earliest}
 
 -- a resource can start at t itself for a requirement: it serves, its companions are on the board, t is not before its arrival, and it
 -- and its companions can start then
@@ -42,3 +44,8 @@ enough b a ready (q ∷ qs) t = leb (q .quantity) (length (startable b a ready q
 unfoldable pub heldAt : Board → Activity → ℕ → List ResourceRequirement → ℕ → List Held
 heldAt b a ready [] t = []
 heldAt b a ready (q ∷ qs) t = holdFirst q (sort (startable b a ready q t (resourcesOf b))) ++ heldAt b a ready qs t
+
+-- what a choice is, for a test of an instant and what is held there: the least instant, or that there is none
+abbrev pub Chooses : (ℕ → Bool) → (ℕ → List Held) → ℕ → Choice → Type 0
+Chooses P H ready noChoice = (x : ℕ) → ready ≤ x → P x ≡ false
+Chooses P H ready (chosen t hs) = Earliest P ready t × (hs ≡ H t)

@@ -1,4 +1,2 @@
--- The marked runs of document 01, computed on the definitions, edges that no reply shows, and a pair of boards that meets the hypotheses of demand 3.
-pub mod Runs
-pub mod Edges
-pub mod Witness
+-- The marked runs, edges of a diary, and boards for demand 3.
+pub mod Theorems

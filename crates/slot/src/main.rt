@@ -1,13 +1,13 @@
 // The program `slot` (01): reads records from standard input and writes what they print. It only reads and writes; what a record
 // does is in `record_diary`.
-use record_diary::Turn;
+use record_diary::DiaryTurn;
 use record_diary_text::Line;
 use record_streams::Input;
 use timeline::ResourceTimeline;
 ghost use Prim.Native.Nat.{_+_, _≤_};
 
 // The next record.
-fn next(t: ResourceTimeline, buf: &[u8; 65536], at: usize, len: usize) -> Turn
+fn next(t: ResourceTimeline, buf: &[u8; 65536], at: usize, len: usize) -> DiaryTurn
     requires { ⌜ (at ≤ len) × (len ≤ 65536) ⌝ }
     ensures { λ r. ⌜ r .at ≤ len ⌝ }
 {

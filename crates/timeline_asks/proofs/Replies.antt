@@ -7,18 +7,19 @@ use lib.Dec.{ltb}
 use borrow.Author.Tests.{ltb-false}
 use Rattle.calendar.specs.Limits.{lastAsked, longestSpan, mostUnits}
 use Rattle.cells.specs.Laws.Basics.{or-left, or-right, unrefused}
-use Rattle.calendar.specs.Refusals.{refusedOr, refused-by}
+use Rattle.calendar.specs.Refusals.{refusedOr}
+use Rattle.calendar.specs.Laws.Refusals.{refused-by}
 use Rattle.calendar.specs.Search.{Found, nothing, at}
-use Rattle.calendar.specs.Searching.{least-found}
+use Rattle.calendar.specs.Laws.Searching.{least-found}
 use Rattle.timeline.specs.declared.ResourceTimeline.{ResourceTimeline}
 use Rattle.timeline.specs.Valid.{valid}
 use Rattle.timeline.specs.Earliest.{fitsAt, lastEvent, earliestFit}
-use Rattle.timeline.specs.Ask.{Reply, fit, none, refused, unbroken, ended, askRefusal, asked}
-use Rattle.timeline.proofs.Rules.{rules}
-use Rattle.timeline.proofs.Stepping.{last-range}
+use Rattle.timeline.specs.Ask.{AskReply, fit, none, refused, unbroken, ended, askRefusal, asked}
+use Rattle.timeline.specs.Laws.Rules.{rules}
+use Rattle.timeline.specs.Laws.Stepping.{last-range}
 
 -- the replies of an ask
-module _ (t : ResourceTimeline) (from span u : ℕ) (reply : Reply) where
+module _ (t : ResourceTimeline) (from span u : ℕ) (reply : AskReply) where
   pub asked-15 : valid t ≡ false → refused 15 ≡ asked t from span u reply
   unfolding asked
   asked-15 v = rw v refl

@@ -15,11 +15,11 @@ use Rattle.timeline.specs.Bookings.{Booking, bookings}
 use Rattle.timeline.specs.Valid.{valid}
 use Rattle.timeline.specs.Free.{free}
 use Rattle.timeline.specs.Earliest.{fitsAt, lastEvent, earliestFit}
-use Rattle.timeline_candidates.specs.Steps.{Candidates}
-use Rattle.timeline.proofs.Rules.{rules}
-use Rattle.timeline.proofs.Loading.{free-few, free-room}
-use Rattle.timeline.proofs.Searching.{Sought, sought-found, sought-none}
-use Rattle.timeline.proofs.Stepping.{fits-at-back, last-still, last-range}
+use Rattle.timeline_candidates.specs.Steps.{StartCandidates}
+use Rattle.timeline.specs.Laws.Rules.{rules}
+use Rattle.timeline.specs.Laws.Loading.{free-few, free-room}
+use Rattle.timeline.specs.Laws.Searching.{Sought, sought-found, sought-none}
+use Rattle.timeline.specs.Laws.Stepping.{fits-at-back, last-still, last-range}
 use Rattle.timeline_resume.proofs.Trying.{passed, all-passed}
 
 module _ (t : ResourceTimeline) (v : valid t ≡ true) (from span u : ℕ) where
@@ -55,7 +55,7 @@ pub over-full : (c : Calendar) (bs : List Booking) (room span s : ℕ) → free 
 unfolding fitsOver
 over-full c bs room span s b = rw b (and-false (fits c s (s + span)))
 
-module _ (t : ResourceTimeline) (v : valid t ≡ true) (from : ℕ) (ws xs : List ℕ) (n : ℕ) (c : Candidates t from ws xs n) (a : from ≤ lastAsked) (span u room : ℕ) (q : u + room ≡ t .capacity) where
+module _ (t : ResourceTimeline) (v : valid t ≡ true) (from : ℕ) (ws xs : List ℕ) (n : ℕ) (c : StartCandidates t from ws xs n) (a : from ≤ lastAsked) (span u room : ℕ) (q : u + room ≡ t .capacity) where
   -- room is what the capacity leaves beside u
   fits-over : (s : ℕ) → fitsOver (t .calendar) (bookings t) room span s ≡ fitsAt t span u s
   unfolding fitsOver fitsAt

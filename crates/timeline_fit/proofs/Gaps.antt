@@ -11,18 +11,18 @@ use Rattle.calendar.specs.declared.Calendar.{Calendar}
 use Rattle.cells.specs.Laws.Basics.{and-join, no-way, lt-or-ge}
 use Rattle.calendar.specs.Search.{at}
 use Rattle.calendar.specs.Fits.{fits}
-use Rattle.calendar.specs.Meaning.{fits-is}
+use Rattle.calendar.specs.Theorems.Meaning.{fits-is}
 use Rattle.timeline.specs.declared.ResourceTimeline.{ResourceTimeline}
 use Rattle.timeline.specs.Bookings.{Booking, bookingAt, bookings}
 use Rattle.cells.specs.Cells.{before}
 use Rattle.timeline.specs.Valid.{valid}
 use Rattle.timeline.specs.Free.{onAt, tally, load}
 use Rattle.timeline.specs.Earliest.{freeOn, fitsAt, earliestFit}
-use Rattle.timeline.proofs.Rules.{Rules, rules}
-use Rattle.timeline.proofs.Rows.{none, count, booking-at}
-use Rattle.timeline.proofs.Loading.{On, on, is-on, During, free-yes, free-no}
-use Rattle.timeline.proofs.Searching.{Sought}
-use Rattle.timeline.proofs.Columns.{columns, none-to}
+use Rattle.timeline.specs.Laws.Rules.{DiaryRules, rules}
+use Rattle.timeline.specs.Laws.Rows.{none, count, booking-at}
+use Rattle.timeline.specs.Laws.Loading.{On, on, is-on, During, free-yes, free-no}
+use Rattle.timeline.specs.Laws.Searching.{Sought}
+use Rattle.timeline.specs.Laws.Columns.{columns, none-to}
 use Rattle.timeline_fit.proofs.Fitting.{fit-found}
 
 -- a booking that is on counts
@@ -79,7 +79,7 @@ module _ (t : ResourceTimeline) (p : Plain t) (d : ℕ) where
       }))
 
 -- a running latest end is one of the ends so far
-latest-one : (t : ResourceTimeline) → Rules t → (j : ℕ) → j < t .len → (k : ℕ) × (k ≤ j) × (getD (t .latest) j 0 ≡ getD (t .ends) k 0)
+latest-one : (t : ResourceTimeline) → DiaryRules t → (j : ℕ) → j < t .len → (k : ℕ) × (k ≤ j) × (getD (t .latest) j 0 ≡ getD (t .ends) k 0)
 unfolding before
 latest-one t rs zero l = (0, omega arith, omega (arith, rs .filled 0 l .latest))
 latest-one t rs (suc j) l =

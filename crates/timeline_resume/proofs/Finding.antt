@@ -18,11 +18,11 @@ use Rattle.timeline.specs.Valid.{valid}
 use Rattle.timeline.specs.Free.{free}
 use Rattle.timeline.specs.Earliest.{freeTo, startsAt, lastEvent, earliestResumable}
 use Rattle.timeline.specs.Ask.{ended, resumed}
-use Rattle.timeline_candidates.specs.Steps.{Candidates}
-use Rattle.timeline.proofs.Rules.{rules}
-use Rattle.timeline.proofs.Loading.{free-few, free-room}
-use Rattle.timeline.proofs.Searching.{Sought, sought-found, sought-none}
-use Rattle.timeline.proofs.Stepping.{starts-at-back, last-still, last-range, joint-one}
+use Rattle.timeline_candidates.specs.Steps.{StartCandidates}
+use Rattle.timeline.specs.Laws.Rules.{rules}
+use Rattle.timeline.specs.Laws.Loading.{free-few, free-room}
+use Rattle.timeline.specs.Laws.Searching.{Sought, sought-found, sought-none}
+use Rattle.timeline.specs.Laws.Stepping.{starts-at-back, last-still, last-range, joint-one}
 use Rattle.timeline_resume.proofs.Trying.{passed, all-passed}
 
 module _ (t : ResourceTimeline) (v : valid t ≡ true) (from span u : ℕ) where
@@ -74,7 +74,7 @@ endOver edges m work s = workEnd (before edges m) (laid edges m) s work
 end-over : (c : Calendar) (edges : List ℕ) (m work s : ℕ) → Layout (working c) edges m → endOver edges m work s ≡ jointEnd (c ∷ []) s work
 end-over c edges m work s y = layout-end (c ∷ []) (working c) edges m s work y (λ p l. sym (joint-one c p))
 
-module _ (t : ResourceTimeline) (v : valid t ≡ true) (from : ℕ) (ws xs : List ℕ) (n : ℕ) (c : Candidates t from ws xs n) (a : from ≤ lastAsked) (span u room : ℕ) (q : u + room ≡ t .capacity) (edges : List ℕ) (m : ℕ) (y : Layout (working (t .calendar)) edges m) where
+module _ (t : ResourceTimeline) (v : valid t ≡ true) (from : ℕ) (ws xs : List ℕ) (n : ℕ) (c : StartCandidates t from ws xs n) (a : from ≤ lastAsked) (span u room : ℕ) (q : u + room ≡ t .capacity) (edges : List ℕ) (m : ℕ) (y : Layout (working (t .calendar)) edges m) where
   -- room is what the capacity leaves beside u
   free-until : (s : ℕ) (f : Found) → freeUntil (bookings t) room s f ≡ freeTo t u s f
   unfolding freeUntil freeTo

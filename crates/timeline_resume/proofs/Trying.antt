@@ -7,17 +7,17 @@ use Prim.Native.Nat.{ℕ, zero, suc, _+_, _-_, _≤_, _<_}
 use native.Mathlib.Omega.{arith}
 use lib.ListN.{getD}
 use Rattle.calendar.specs.Limits.{lastInstant, lastAsked, never}
-use Rattle.calendar.proofs.Rules.{windows-right, blocks-right, filled}
+use Rattle.calendar.specs.Laws.Rules.{windows-right, blocks-right, filled}
 use Rattle.timeline.specs.declared.ResourceTimeline.{ResourceTimeline}
 use Rattle.timeline.specs.Valid.{valid}
-use Rattle.timeline.specs.Steps.{Next}
-use Rattle.timeline_candidates.specs.Steps.{Listed, Event, Candidates}
-use Rattle.timeline.proofs.Rules.{Rules, rules}
-use Rattle.timeline.proofs.Searching.{Sought, sought-start, sought-on}
+use Rattle.timeline.specs.Steps.{Next, Still}
+use Rattle.timeline_candidates.specs.Steps.{Listed, Event, StartCandidates}
+use Rattle.timeline.specs.Laws.Rules.{DiaryRules, rules}
+use Rattle.timeline.specs.Laws.Searching.{Sought, sought-start, sought-on}
 use Rattle.timeline_candidates.proofs.Listing.{first-is, next-listed, next-none}
-use Rattle.timeline.proofs.Stepping.{Still, next-still}
+use Rattle.timeline.specs.Laws.Stepping.{next-still}
 
-event-range : (t : ResourceTimeline) → Rules t → (y : ℕ) → Event t y → y ≤ lastInstant
+event-range : (t : ResourceTimeline) → DiaryRules t → (y : ℕ) → Event t y → y ≤ lastInstant
 event-range t r y e =
     ⊎-elim
     (λ (w : Listed (t .calendar .windows .starts) (t .calendar .windows .len) y).
@@ -30,7 +30,7 @@ event-range t r y e =
     (λ (w : Listed (t .ends) (t .len) y). omega (arith, r .filled (w .0) (w .1) .range, w .2)))
     e
 
-module _ (t : ResourceTimeline) (v : valid t ≡ true) (from : ℕ) (ws xs : List ℕ) (n : ℕ) (c : Candidates t from ws xs n) (a : from ≤ lastAsked) where
+module _ (t : ResourceTimeline) (v : valid t ≡ true) (from : ℕ) (ws xs : List ℕ) (n : ℕ) (c : StartCandidates t from ws xs n) (a : from ≤ lastAsked) where
   pub candidate-range : (i : ℕ) → i < n → getD xs i 0 ≤ lastAsked
   candidate-range i l =
       ⊎-elim

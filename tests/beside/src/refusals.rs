@@ -119,7 +119,7 @@ pub fn program_of(known: Known) -> &'static str {
     match known {
         Known::Slot => "slot",
         Known::Offer => "offer",
-        _ => "calendar_runs",
+        _ => "run_calendar",
     }
 }
 

@@ -57,10 +57,10 @@ pub const SHORT: Plan = Plan {
 
 /// The families: kinds, program, diaries, calendar cases or orders in one stream.
 const FAMILIES: [(Known, &str, usize); 4] = [
-    (Known::Calendar, "calendar_runs", 100),
+    (Known::Calendar, "run_calendar", 100),
     (Known::Slot, "slot", 100),
     (Known::Offer, "offer", 0),
-    (Known::Board, "board_runs", 60),
+    (Known::Board, "run_board", 60),
 ];
 
 /// A stream inside 01's limits.

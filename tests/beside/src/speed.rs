@@ -1,4 +1,4 @@
-//! Times kind 38 (layouts of joint time and work ends) on the Rust and on calendar_runs, both as
+//! Times kind 38 (layouts of joint time and work ends) on the Rust and on run_calendar, both as
 //! processes that read the same file, in turn, the least of several runs each. The time of the
 //! same stream with no rounds is taken off, so that neither the start of the process nor the
 //! reading counts.
@@ -54,14 +54,14 @@ pub fn timed_on(program: &Path, bytes: &[u8]) -> (f64, String) {
     both
 }
 
-/// The programs timed: the Rust by this program itself, and calendar_runs where it is there.
+/// The programs timed: the Rust by this program itself, and run_calendar where it is there.
 fn commands(programs: &Path) -> Vec<(String, PathBuf, Vec<&'static str>)> {
     let own = std::env::current_exe().expect("this program has a path");
     let mut commands = vec![("reference".to_string(), own, vec!["reply", "reference", "calendar"])];
-    let program = programs.join("calendar_runs");
+    let program = programs.join("run_calendar");
     match program.exists() {
-        true => commands.push(("calendar_runs".to_string(), program, vec![])),
-        false => println!("calendar_runs: not there yet"),
+        true => commands.push(("run_calendar".to_string(), program, vec![])),
+        false => println!("run_calendar: not there yet"),
     }
     commands
 }

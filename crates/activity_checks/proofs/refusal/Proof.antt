@@ -5,7 +5,7 @@ use mathlib.Core.Path.{_≡_, sym, _∙_}
 use mathlib.Core.Bool.{true}
 use native.Mathlib.Omega.{arith}
 use Rattle.activity.specs.Check.{timesRight}
-use Rattle.activity.proofs.Judging.{late-ready, late-release, long-base, long-timing, times-right, refused-5, refused-1, refused-6, refused-6-quantity, refused-3, refused-8, not-refused}
+use Rattle.activity.specs.Laws.Judging.{late-ready, late-release, long-base, long-timing, times-right, refused-5, refused-1, refused-6, refused-6-quantity, refused-3, refused-8, not-refused}
 use Rattle.activity_checks.proofs.refusal.Statement.{statement}
 use Rattle.activity_checks.proofs.refusal.Tie as tie
 

@@ -6,13 +6,14 @@ use mathlib.Core.Bool.{true, false}
 use mathlib.Core.List.{List}
 use Prim.Native.Nat.{ℕ}
 use lib.ListN.{take}
-use Rattle.calendar.specs.Refusals.{refusedOr, refused-by}
+use Rattle.calendar.specs.Refusals.{refusedOr}
+use Rattle.calendar.specs.Laws.Refusals.{refused-by}
 use Rattle.calendar.specs.Valid.{valid}
 use Rattle.activity.specs.declared.ActivityDuration.{ActivityDuration}
 use Rattle.activity.specs.declared.Activity.{Activity}
 use Rattle.activity.specs.Durations.{durationOn}
 use Rattle.activity.specs.Check.{lasts, refused, replyOf, heldRight, activityRefusal, durationReply}
-use Rattle.activity.proofs.Judging.{held-says, accepted}
+use Rattle.activity.specs.Laws.Judging.{held-says, accepted}
 use Rattle.activity_durations.proofs.duration_on.Statement.{statement}
 use Rattle.activity_durations.proofs.duration_on.Tie as tie
 

@@ -2,7 +2,7 @@
 use mathlib.Core.Path.{sym}
 use mir.Syntax.{w64}
 use mir.ValLaws.{toZ-ofZ}
-use Rattle.board.proofs.Numbers.{duration-below, duration-from}
+use Rattle.board.specs.Laws.Numbers.{duration-below, duration-from}
 use Rattle.board.proofs.duration_right.Statement.{statement}
 use Rattle.board.proofs.duration_right.Tie as tie
 

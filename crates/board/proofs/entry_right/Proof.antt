@@ -2,7 +2,7 @@
 use mathlib.Core.Path.{sym}
 use mir.Syntax.{w64}
 use mir.ValLaws.{toZ-ofZ}
-use Rattle.board.proofs.Numbers.{entry-below, entry-from}
+use Rattle.board.specs.Laws.Numbers.{entry-below, entry-from}
 use Rattle.board.proofs.entry_right.Statement.{statement}
 use Rattle.board.proofs.entry_right.Tie as tie
 

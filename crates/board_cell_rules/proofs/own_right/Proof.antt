@@ -2,7 +2,7 @@
 use borrow.Author.Needs.{needs}
 use mir.Syntax.{w64}
 use mir.ValLaws.{toZ-ofZ}
-use Rattle.board.proofs.Numbers.{zero-bits}
+use Rattle.board.specs.Laws.Numbers.{zero-bits}
 use Rattle.board_cell_rules.proofs.own_right.Statement.{statement}
 use Rattle.board_cell_rules.proofs.own_right.Tie as tie
 

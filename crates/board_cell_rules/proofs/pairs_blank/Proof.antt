@@ -9,7 +9,7 @@ use lib.ListN.{getD}
 use mir.Syntax.{w64}
 use mir.Val.{ofZ}
 use Rattle.board.specs.Valid.{isZero}
-use Rattle.board.proofs.Numbers.{zero-bits}
+use Rattle.board.specs.Laws.Numbers.{zero-bits}
 use Rattle.cells.specs.Every.{everyFrom}
 use Rattle.cells.specs.Laws.Every.{from-stop, from-more, from-done}
 use Rattle.board_cell_rules.proofs.pairs_blank.Statement.{statement}

@@ -3,7 +3,7 @@ use borrow.Author.Needs.{needs}
 use mathlib.Core.Path.{sym, _∙_}
 use native.Mathlib.Omega.{arith}
 use Rattle.board.specs.Enter.{withNew, addResourceReply}
-use Rattle.board.proofs.Replying.{refused-by, taken-by}
+use Rattle.board.specs.Laws.Replying.{refused-by, taken-by}
 use Rattle.board_resources.proofs.Replying.{add-taken}
 use Rattle.board_resources.proofs.add_resource.Statement.{statement}
 use Rattle.board_resources.proofs.add_resource.Tie as tie

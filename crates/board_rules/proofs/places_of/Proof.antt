@@ -14,9 +14,9 @@ use Rattle.cells.specs.Every.{everyFrom}
 use Rattle.board.specs.declared.Board.{Board}
 use Rattle.board.specs.Resources.{resourceAt, numberAt}
 use Rattle.board.specs.Valid.{resourceRight, resourceBlank, cellRight, transportRight, valid}
-use Rattle.board.proofs.Facts.{resource-number, cell-past, cell-wrong, cell-twice, cell-right, valid-long, valid-start, valid-stop, valid-next, valid-end}
-use Rattle.board.proofs.Seeing.{Seen, seen-none}
-use Rattle.board.proofs.Setting.{seen-next, seen-past, seen-at, transport-same, read-all}
+use Rattle.board.specs.Laws.Facts.{resource-number, cell-past, cell-wrong, cell-twice, cell-right, valid-long, valid-start, valid-stop, valid-next, valid-end}
+use Rattle.board.specs.Laws.Seeing.{Seen, seen-none}
+use Rattle.board.specs.Laws.Setting.{seen-next, seen-past, seen-at, transport-same, read-all}
 use Rattle.board_rules.proofs.Lengths.{Read, few-bookings, refuted}
 use Rattle.board_rules.proofs.places_of.Statement.{statement}
 use Rattle.board_rules.proofs.places_of.Tie as tie

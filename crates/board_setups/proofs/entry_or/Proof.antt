@@ -2,7 +2,7 @@
 use native.Mathlib.Omega.{arith}
 use mir.Syntax.{w64}
 use mir.ValLaws.{toZ-ofZ}
-use Rattle.board.proofs.Numbers.{entry-absent, entry-present}
+use Rattle.board.specs.Laws.Numbers.{entry-absent, entry-present}
 use Rattle.board_setups.proofs.entry_or.Statement.{statement}
 use Rattle.board_setups.proofs.entry_or.Tie as tie
 

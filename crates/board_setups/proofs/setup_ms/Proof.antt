@@ -9,7 +9,7 @@ use lib.ListN.{getD}
 use mir.Syntax.{w64}
 use mir.ValLaws.{toZ-ofZ}
 use Rattle.board.specs.Setups.{entryOr}
-use Rattle.board.proofs.Setting.{last-small, setup-own, setup-first, setup-equal, setup-other}
+use Rattle.board.specs.Laws.Setting.{last-small, setup-own, setup-first, setup-equal, setup-other}
 use Rattle.board_setups.proofs.setup_ms.Statement.{statement}
 use Rattle.board_setups.proofs.setup_ms.Tie as tie
 

@@ -6,8 +6,8 @@ use Prim.Native.Nat.{_-_, _≤_}
 use native.Mathlib.Omega.{arith}
 use Rattle.board.specs.Transport.{greatestTransport}
 use Rattle.board.specs.Places.{anywhere}
-use Rattle.calendar.specs.Sets.{bit-yes, bit-no}
-use Rattle.board.proofs.Masks.{greatest-none, greatest-hit, greatest-miss}
+use Rattle.calendar.specs.Laws.Sets.{bit-yes, bit-no}
+use Rattle.board.specs.Laws.Masks.{greatest-none, greatest-hit, greatest-miss}
 use Rattle.board_setups.proofs.transport_between.Statement.{statement}
 use Rattle.board_setups.proofs.transport_between.Tie as tie
 

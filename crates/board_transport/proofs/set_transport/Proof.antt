@@ -3,7 +3,7 @@ use borrow.Author.Needs.{needs}
 use mathlib.Core.Path.{sym, _∙_}
 use native.Mathlib.Omega.{arith}
 use Rattle.board.specs.Enter.{setTransportReply}
-use Rattle.board.proofs.Replying.{refused-by, taken-by}
+use Rattle.board.specs.Laws.Replying.{refused-by, taken-by}
 use Rattle.board_transport.proofs.Replying.{transport-places}
 use Rattle.board_transport.proofs.set_transport.Statement.{statement}
 use Rattle.board_transport.proofs.set_transport.Tie as tie

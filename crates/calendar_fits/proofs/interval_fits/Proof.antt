@@ -1,8 +1,8 @@
 -- `calendar_fits::interval_fits` meets its contract.
 use mathlib.Core.Path.{sym, _∙_}
 use Rattle.calendar.specs.Fits.{fits}
-use Rattle.calendar.proofs.Rules.{right, windows-right, blocks-right}
-use Rattle.calendar.specs.Spanning.{shut-by, open-by-none, open-by-some}
+use Rattle.calendar.specs.Laws.Rules.{right, windows-right, blocks-right}
+use Rattle.calendar.specs.Laws.Spanning.{shut-by, open-by-none, open-by-some}
 use Rattle.calendar_fits.proofs.interval_fits.Statement.{statement}
 use Rattle.calendar_fits.proofs.interval_fits.Tie as tie
 

@@ -6,7 +6,7 @@ use mathlib.Core.Logic.{⊎-elim}
 use Prim.Native.Nat.{_-_, _≤_}
 use native.Mathlib.Omega.{arith}
 use Rattle.calendar.specs.Spans.{spanAt, spansFrom, spans, any, holds}
-use Rattle.calendar.specs.Spanning.{any-stop, any-more, any-done, holds-yes, holds-no}
+use Rattle.calendar.specs.Laws.Spanning.{any-stop, any-more, any-done, holds-yes, holds-no}
 use native.Mathlib.Nat.{sub-zero}
 use Rattle.calendar_fits.proofs.some_holds.Statement.{statement}
 use Rattle.calendar_fits.proofs.some_holds.Tie as tie

@@ -6,7 +6,7 @@ use mathlib.Core.Logic.{⊎-elim}
 use Prim.Native.Nat.{_-_, _≤_}
 use native.Mathlib.Omega.{arith}
 use Rattle.calendar.specs.Spans.{spanAt, spansFrom, spans, any, meets}
-use Rattle.calendar.specs.Spanning.{any-stop, any-more, any-done, meets-yes, meets-no}
+use Rattle.calendar.specs.Laws.Spanning.{any-stop, any-more, any-done, meets-yes, meets-no}
 use native.Mathlib.Nat.{sub-zero}
 use Rattle.calendar_fits.proofs.some_meets.Statement.{statement}
 use Rattle.calendar_fits.proofs.some_meets.Tie as tie

@@ -7,8 +7,7 @@ use lib.ListN.{length, getD, drop, length-map}
 use mathlib.Core.List.{[]}
 use Rattle.committing.proofs.commit.Statement.{statement}
 use Rattle.committing.proofs.commit.Tie as tie
-use Rattle.scheduler.specs.Committing.{linesOf, bookAll}
-use Rattle.scheduler.specs.Committed.{Bookable}
+use Rattle.scheduler.specs.Committing.{linesOf, bookAll, Bookable}
 use Rattle.commit_checks.proofs.Refusing.{fine, reply-refused, reply-taken}
 use Rattle.committing.proofs.Ahead.{Ahead, RowHere, ahead-none, lines-none, row-here, row-next}
 
@@ -21,18 +20,18 @@ abbrev μ-loop : tie.MeasureT-loop
 places-of-requires : tie.Need-places-of-requires Inv-loop μ-loop
 places-of-requires c κs = search needs
 
-refusal-of-requires : tie.Need-refusal-of-requires Inv-loop μ-loop
-refusal-of-requires c κs = λ e. c .places-of .ensures .1 (sym (c .places-of .ensures .0) ∙ e) .2
+commit-refusal-requires : tie.Need-commit-refusal-requires Inv-loop μ-loop
+commit-refusal-requires c κs = λ e. c .places-of .ensures .1 (sym (c .places-of .ensures .0) ∙ e) .2
 
 returns : tie.Need-returns Inv-loop μ-loop
 returns c =
     let a = c .before .before .before .args in
-    reply-refused (a .b) (a .slate .now) (a .count) (a .start) (a .end) (a .category) (c .before .refusal-of .result) (c .before .refusal-of .ensures (a .b) (c .before .before .places-of .ensures .0) (λ v. let k = c .before .before .places-of .ensures .1 v in (k .0, k .1))) (c .if1 .taken)
+    reply-refused (a .b) (a .slate .now) (a .count) (a .start) (a .end) (a .category) (c .before .commit-refusal .result) (c .before .commit-refusal .ensures (a .b) (c .before .before .places-of .ensures .0) (λ v. let k = c .before .before .places-of .ensures .1 v in (k .0, k .1))) (c .if1 .taken)
 
 loop-holds : tie.Need-loop-holds Inv-loop μ-loop
 loop-holds c =
     let a = c .before .before .before .before .args in
-    let f = fine (a .b) (a .slate .now) (a .count) (a .start) (a .end) (a .category) (c .before .before .refusal-of .result) (c .before .before .refusal-of .ensures (a .b) (c .before .before .before .places-of .ensures .0) (λ v. let k = c .before .before .before .places-of .ensures .1 v in (k .0, k .1))) (c .before .if1 .left) in
+    let f = fine (a .b) (a .slate .now) (a .count) (a .start) (a .end) (a .category) (c .before .before .commit-refusal .result) (c .before .before .commit-refusal .ensures (a .b) (c .before .before .before .places-of .ensures .0) (λ v. let k = c .before .before .before .places-of .ensures .1 v in (k .0, k .1))) (c .before .if1 .left) in
     let z : a .count - 0 ≡ a .count = omega arith in
     (omega arith, f .enough, f .bookable, rw z (record { long = simp length-map at (c .before .before .before .before .good .0 .1 .1 .0 .1 .0 .1); valid = f .valid; known = c .before .before .before .places-of .ensures .1 (f .valid) .0; right = f .right; room = f .room; same = refl }))
 
@@ -114,7 +113,7 @@ returns-2 c =
     let i = c .before .loop .i in
     let l = c .loop-test .left in
     let whole = ahead-none (a .start) (a .end) (a .category) places _ (c .before .loop .board) _ (lines-none (a .slate .now) i (a .count) (omega arith)) (v .3) in
-    reply-taken (a .b) (a .slate .now) (a .count) (a .start) (a .end) (a .category) (c .before .loop .board) (c .before .before .before .before .refusal-of .result) (c .before .before .before .before .refusal-of .ensures (a .b) (c .before .before .before .before .before .places-of .ensures .0) (λ v. let k = c .before .before .before .before .before .places-of .ensures .1 v in (k .0, k .1))) (c .before .before .before .if1 .left) whole
+    reply-taken (a .b) (a .slate .now) (a .count) (a .start) (a .end) (a .category) (c .before .loop .board) (c .before .before .before .before .commit-refusal .result) (c .before .before .before .before .commit-refusal .ensures (a .b) (c .before .before .before .before .before .places-of .ensures .0) (λ v. let k = c .before .before .before .before .before .places-of .ensures .1 v in (k .0, k .1))) (c .before .before .before .if1 .left) whole
 
 pub commit-spec : {M : Type 1} → statement M
 commit-spec =
@@ -123,7 +122,7 @@ commit-spec =
     Inv-loop
     μ-loop
     places-of-requires
-    refusal-of-requires
+    commit-refusal-requires
     returns
     loop-holds
     mul-row

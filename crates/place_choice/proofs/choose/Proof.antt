@@ -9,8 +9,8 @@ use Prim.Native.Nat.{_/_, _%_}
 use native.Mathlib.Omega.{arith}
 use lib.ListN.{getD, length, length-map}
 use Rattle.board.specs.Resources.{resourceAt}
-use Rattle.board.proofs.Facts.{rules}
-use Rattle.board.proofs.Meaning.{resource-of}
+use Rattle.board.specs.Laws.Facts.{rules}
+use Rattle.board.specs.Theorems.Meaning.{resource-of}
 use Rattle.timeline_fit.specs.Steps.{startOf}
 use Rattle.place_plans.specs.Plans.{noPlan, planWith}
 use Rattle.place_plans.proofs.Planning.{order-lawful, category-range, way-small, arrival-is}

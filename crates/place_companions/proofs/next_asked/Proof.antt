@@ -3,7 +3,8 @@ use borrow.Author.Needs.{needs}
 use Rattle.place_companions.proofs.next_asked.Statement.{statement}
 use Rattle.place_companions.proofs.next_asked.Tie as tie
 use mathlib.Core.Path.{refl, sym}
-use Rattle.scheduler.specs.Asking.{nextAsked, next-stays, next-moved}
+use Rattle.scheduler.specs.Shares.{nextAsked}
+use Rattle.scheduler.specs.Laws.Asking.{next-stays, next-moved}
 
 returns : tie.Need-returns
 unfolding nextAsked

@@ -6,7 +6,7 @@ use mathlib.Core.Path.{_≡_, _∙_}
 use Prim.Native.Nat.{_^_, _≤_}
 use native.Mathlib.Omega.{arith}
 use lib.ListN.{take}
-use Rattle.board.proofs.Meaning.{resource-of}
+use Rattle.board.specs.Theorems.Meaning.{resource-of}
 use Rattle.scheduler.specs.Fitting.{greatestSetup}
 use Rattle.place_entries.proofs.Parting.{duration-small, setups-small, span-is, entries-whole}
 

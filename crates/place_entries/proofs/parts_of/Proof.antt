@@ -10,7 +10,7 @@ use borrow.Author.Needs.{needs}
 use lib.ListN.{length, getD, take, length-set}
 use Rattle.activity.specs.declared.Activity.{Activity}
 use Rattle.board.specs.declared.Board.{Board}
-use Rattle.board.proofs.Facts.{rules}
+use Rattle.board.specs.Laws.Facts.{rules}
 use Rattle.scheduler.specs.Fitting.{allCompanions}
 use Rattle.scheduler.specs.Selections.{noSelection, heldTo}
 use Rattle.cells.specs.Every.{Each, each-end}
@@ -18,7 +18,7 @@ use Rattle.cells.specs.Laws.Basics.{filled-next}
 use Rattle.place_plans.specs.declared.Plan.{Plan}
 use Rattle.place_plans.specs.Plans.{noPlan, planWith}
 use Rattle.place_entries.specs.Cells.{Small}
-use Rattle.place_entries.specs.Parts.{Taken}
+use Rattle.place_entries.specs.Parts.{PlansKnown}
 use Rattle.place_entries.proofs.Parting.{setup-kept, kept-next, companions-next, plan-companions}
 
 abbrev Inv-loop : tie.InvT-loop
@@ -28,7 +28,7 @@ Inv-loop count plans held numbers₀ matrices₀ setups₀ list₀ i₀ numbers 
     × ((k : ℕ) → k < i → (own : ℕ) → cond (getD matrices k false) (getD setups k 0) own ≡ cond (getD plans (getD held k noSelection .place) noPlan .matrix) (getD plans (getD held k noSelection .place) noPlan .setup) own)
     × (list .len ≤ 4 * i)
     × Each Small (take (list .len) (list .numbers))
-    × ((b : Board) (a : Activity) (ready : ℕ) → Taken b a ready plans held count → take (list .len) (list .numbers) ≡ allCompanions (heldTo b held i))
+    × ((b : Board) (a : Activity) (ready : ℕ) → PlansKnown b a ready plans held count → take (list .len) (list .numbers) ≡ allCompanions (heldTo b held i))
 
 abbrev μ-loop : tie.MeasureT-loop
 μ-loop count plans held numbers₀ matrices₀ setups₀ list₀ i₀ numbers matrices setups list i = count - i

@@ -19,10 +19,10 @@ use Rattle.timeline.specs.Ask.{unbroken}
 use Rattle.timeline_fit.specs.Steps.{startOf}
 use Rattle.scheduler.specs.Alone.{Share, earliestOf}
 use Rattle.scheduler.specs.Fitting.{fitting, endOf}
-use Rattle.scheduler.specs.Shares.{startOn, noShare}
-use Rattle.scheduler.specs.Events.{above}
-use Rattle.scheduler.specs.Owning.{ownShare, suitsOn, leastOn, fitting-on}
-use Rattle.scheduler.specs.Asking.{Asked, asked-start, asked-on, asked-none, asked-listed, asked-less, listed-among, asked-all}
+use Rattle.scheduler.specs.Shares.{startOn, noShare, ownShare}
+use Rattle.scheduler.specs.Instants.{above}
+use Rattle.scheduler.specs.Laws.Owning.{suitsOn, leastOn, fitting-on}
+use Rattle.scheduler.specs.Laws.Asking.{Asked, asked-start, asked-on, asked-none, asked-listed, asked-less, listed-among, asked-all}
 use Rattle.place_fit.specs.Closing.{withEnd, closing, fitOf}
 use Rattle.place_fit.proofs.Reading.{Asks, those, instants, asks-own, asks-long, asks-sound, asks-kept, asks-some, Small, entry-small, read-share, own-share}
 

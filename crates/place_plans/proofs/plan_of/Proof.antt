@@ -4,7 +4,7 @@ use Rattle.place_plans.proofs.plan_of.Statement.{statement}
 use Rattle.place_plans.proofs.plan_of.Tie as tie
 use mathlib.Core.Path.{_≡_, refl}
 use native.Mathlib.Omega.{arith}
-use Rattle.board.proofs.Meaning.{resource-rules}
+use Rattle.board.specs.Theorems.Meaning.{resource-rules}
 use Rattle.scheduler.specs.Alone.{spanOf, durationAlone}
 use Rattle.place_plans.specs.Plans.{planWith}
 use Rattle.place_plans.proofs.Planning.{lasting-small}

@@ -8,14 +8,14 @@ use mathlib.Core.Logic.{inl, inr, ⊎-elim}
 use Prim.Native.Nat.{_^_}
 use native.Mathlib.Omega.{arith}
 use Rattle.timeline.specs.Earliest.{freeOn}
-use Rattle.timeline.proofs.Stepping.{next-still}
+use Rattle.timeline.specs.Laws.Stepping.{next-still}
 use Rattle.place_resume.specs.declared.Trial.{Trial}
 
 is-free-requires : tie.Need-is-free-requires
 is-free-requires c κs = search needs
 
-next-candidate-requires : tie.Need-next-candidate-requires
-next-candidate-requires c κs = search needs
+next-start-candidate-requires : tie.Need-next-start-candidate-requires
+next-start-candidate-requires c κs = search needs
 
 joined : (c : tie.Joined1) → (c .if1 .r .at ≡ c .before .args .t .at) × (c .if1 .r .end ≡ c .before .args .t .end) × (c .if1 .r .laid ≡ c .before .args .t .laid) × (c .if1 .r .free ≡ c .before .args .t .free && freeOn (c .before .args .d) (c .before .args .units) (c .before .args .t .at) (c .before .args .t .end)) × (c .if1 .r .next ≡ c .before .args .t .next)
 joined c =
@@ -27,17 +27,17 @@ joined c =
 returns : tie.Need-returns
 returns c =
     let j = joined (c .before .before .before) in
-    let n = c .before .before .next-candidate .ensures .next in
+    let n = c .before .before .next-start-candidate .ensures .next in
     let l = c .if2 .taken in
-    ((j .0, j .1, j .2, j .3), (n .above, omega arith, λ y p q. next-still _ _ _ y n p q, inr (⊎-elim (λ (z : c .before .before .next-candidate .result ≡ 2 ^ 63). absurd (omega (arith, c .before .before .before .before .pre .2))) (λ z. z) (c .before .before .next-candidate .ensures .is))))
+    ((j .0, j .1, j .2, j .3), (n .above, omega arith, λ y p q. next-still _ _ _ y n p q, inr (⊎-elim (λ (z : c .before .before .next-start-candidate .result ≡ 2 ^ 63). absurd (omega (arith, c .before .before .before .before .pre .2))) (λ z. z) (c .before .before .next-start-candidate .ensures .is))))
 
 returns-2 : tie.Need-returns-2
 returns-2 c =
     let q = c .before .before .before .before .pre in
     let j = joined (c .before .before .before) in
-    let n = c .before .before .next-candidate .ensures .next in
+    let n = c .before .before .next-start-candidate .ensures .next in
     let l = c .if2 .left in
-    ((j .0, j .1, j .2, j .3), (omega (arith, j .4, q .1), omega (arith, j .4), λ y p q. next-still _ _ (c .before .before .next-candidate .result) y n p (omega (arith, j .4)), inl (j .4)))
+    ((j .0, j .1, j .2, j .3), (omega (arith, j .4, q .1), omega (arith, j .4), λ y p q. next-still _ _ (c .before .before .next-start-candidate .result) y n p (omega (arith, j .4)), inl (j .4)))
 
 pub asked-spec : {M : Type 1} → statement M
-asked-spec = tie.close (tie.spec is-free-requires next-candidate-requires returns returns-2)
+asked-spec = tie.close (tie.spec is-free-requires next-start-candidate-requires returns returns-2)

@@ -19,8 +19,8 @@ use Rattle.timeline.specs.Diary.{diary}
 use Rattle.timeline.specs.Valid.{valid}
 use Rattle.scheduler.specs.Alone.{Share}
 use Rattle.scheduler.specs.Fitting.{endOf}
-use Rattle.scheduler.specs.Shares.{noShare}
-use Rattle.scheduler.specs.Owning.{ownShare, leastOn, fitting-on}
+use Rattle.scheduler.specs.Shares.{noShare, ownShare}
+use Rattle.scheduler.specs.Laws.Owning.{leastOn, fitting-on}
 use Rattle.place_fit.specs.Closing.{withEnd, closing, fitOf}
 use Rattle.place_fit.proofs.Reading.{Asks, those, instants, asks-own, asks-long, asks-sound, asks-kept, Small, entry-small, read-share, own-share}
 use Rattle.place_resume.specs.declared.Trial.{Trial}

@@ -1,6 +1,6 @@
 -- `placing::place_activity` meets its contract: refusal by refusal; then an order without requirements, no choice, or the choice; and its fit.
 use borrow.Author.Needs.{needs}
-use Rattle.place_entries.specs.Parts.{Taken}
+use Rattle.place_entries.specs.Parts.{PlansKnown}
 use Rattle.placing.proofs.place_activity.Statement.{statement}
 use Rattle.placing.proofs.place_activity.Tie as tie
 use mathlib.Core.Path.{_≡_, refl, sym, ap, _∙_}
@@ -12,8 +12,8 @@ use lib.ListN.{length, take, length-map}
 use lib.Seq.{length-take-le}
 use Rattle.activity.specs.Ready.{readyOf}
 use Rattle.activity.specs.Check.{activityRefusal}
-use Rattle.activity.proofs.Judging.{accepted}
-use Rattle.activity.proofs.Meaning.{ready-range}
+use Rattle.activity.specs.Laws.Judging.{accepted}
+use Rattle.activity.specs.Theorems.Meaning.{ready-range}
 use Rattle.scheduler.specs.Alone.{spanOf}
 use Rattle.scheduler.specs.Choosing.{noChoice, chosen, choosing}
 use Rattle.scheduler.specs.Fitting.{sharesOf}
@@ -28,14 +28,14 @@ use Rattle.placing.proofs.Replying.{Stands, ready-lawful, reply-refused
 places-of-requires : tie.Need-places-of-requires
 places-of-requires c κs = search needs
 
-refusal-of-requires : tie.Need-refusal-of-requires
-refusal-of-requires c κs = search needs
+place-refusal-requires : tie.Need-place-refusal-requires
+place-refusal-requires c κs = search needs
 
 returns : tie.Need-returns
 unfolding told slateAfter
 returns c =
     let a = c .before .before .before .args in
-    let e = reply-refused (a .b) (a .a) (a .ready) (length (a .slate .now)) _ (c .before .refusal-of .ensures (a .b) (c .before .before .places-of .ensures .0)) (c .if1 .taken) in
+    let e = reply-refused (a .b) (a .a) (a .ready) (length (a .slate .now)) _ (c .before .place-refusal .ensures (a .b) (c .before .before .places-of .ensures .0)) (c .if1 .taken) in
     rw e (refl, refl)
 
 ready-of-requires : tie.Need-ready-of-requires
@@ -43,7 +43,7 @@ ready-of-requires c κs = search needs
 
 -- nothing is refused
 checked : (c : tie.After-places) → placeRefusal (c .before .before .before .before .args .b) (c .before .before .before .before .args .a) (c .before .before .before .before .args .ready) (length (c .before .before .before .before .args .slate .now)) ≡ 0
-checked c = sym (c .before .before .refusal-of .ensures (c .before .before .before .before .args .b) (c .before .before .before .places-of .ensures .0)) ∙ c .before .if1 .left
+checked c = sym (c .before .before .place-refusal .ensures (c .before .before .before .before .args .b) (c .before .before .before .places-of .ensures .0)) ∙ c .before .if1 .left
 
 add-span : tie.Need-add-span
 add-span c =
@@ -111,7 +111,7 @@ joined c =
     let f : choosing (a .b) (a .a) (c .before .before .before .before .before .ready-of .result) ≡ chosen (k .result .instant) (heldTo (a .b) (k .result .held) (k .result .count)) = chosen-held (a .b) (k .result) _ (h .0) (not-false _ (w .3 .left)) in
     let long : length (k .result .held) ≡ 8 = simp length-map at (k .ok .1 .1 .1 .1 .0 .1 .0 .1) in
     let m = h .2 (not-false _ (w .3 .left)) in
-    let u : Taken (a .b) (a .a) (c .before .before .before .before .before .ready-of .result) (k .result .plans) (k .result .held) (k .result .count) = record { right = o .0; planned = m .planned; places = m .places } in
+    let u : PlansKnown (a .b) (a .a) (c .before .before .before .before .before .ready-of .result) (k .result .plans) (k .result .held) (k .result .count) = record { right = o .0; planned = m .planned; places = m .places } in
     let y = w .6 .ensures in
     let z = y .1 (a .b) (c .before .before .before .before .before .ready-of .result) u in
     let e = reply-held (a .b) (a .a) (a .ready) (length (a .slate .now)) v (g .0) (g .1) (g .2) (k .result .instant) (heldTo (a .b) (k .result .held) (k .result .count)) (rw from at f) in
@@ -205,7 +205,7 @@ place-activity-spec =
     tie.close
     (tie.spec
     places-of-requires
-    refusal-of-requires
+    place-refusal-requires
     returns
     ready-of-requires
     add-span

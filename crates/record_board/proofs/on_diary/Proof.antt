@@ -7,11 +7,11 @@ use Rattle.record_board.proofs.on_diary.Tie as tie
 step-requires : tie.Need-step-requires
 step-requires c κs = c .before .pre
 
-refusal-of-requires : tie.Need-refusal-of-requires
-refusal-of-requires c κs = search needs
+line-refusal-requires : tie.Need-line-refusal-requires
+line-refusal-requires c κs = search needs
 
 returns : tie.Need-returns
-returns c = diary-told _ _ _ _ _ _ (c .refusal-of .ensures) (c .before .before .step .ensures)
+returns c = diary-told _ _ _ _ _ _ (c .line-refusal .ensures) (c .before .before .step .ensures)
 
 pub on-diary-spec : {M : Type 1} → statement M
-on-diary-spec = tie.close (tie.spec step-requires refusal-of-requires returns)
+on-diary-spec = tie.close (tie.spec step-requires line-refusal-requires returns)

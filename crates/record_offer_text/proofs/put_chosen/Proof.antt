@@ -1,7 +1,7 @@
 -- `record_offer_text::put_chosen` meets its contract: three pieces, one behind the other.
 use borrow.Author.Needs.{needs}
 use native.Mathlib.Omega.{arith}
-use Rattle.record_texts.specs.Laws.{then}
+use Rattle.record_texts.specs.Laws.Putting.{then}
 use Rattle.record_offer_text.specs.Lines.{chosenText}
 use Rattle.record_offer_text.proofs.put_chosen.Statement.{statement}
 use Rattle.record_offer_text.proofs.put_chosen.Tie as tie

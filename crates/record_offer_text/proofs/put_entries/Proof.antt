@@ -5,7 +5,7 @@ use mathlib.Core.Path.{_≡_, refl}
 use Prim.Native.Nat.{_+_, _-_, _*_, _≤_}
 use lib.ListN.{length, take}
 use Rattle.record_texts.specs.Text.{Put}
-use Rattle.record_texts.specs.Laws.{then, put-none}
+use Rattle.record_texts.specs.Laws.Putting.{then, put-none}
 use Rattle.record_offer_text.specs.Lines.{entriesText}
 use Rattle.record_offer_text.proofs.Printing.{entries-more}
 use Rattle.record_offer_text.proofs.put_entries.Statement.{statement}

@@ -1,7 +1,7 @@
 -- `record_offer_text::put_line` meets its contract: by the cases of the answer.
 use borrow.Author.Needs.{needs}
 use native.Mathlib.Omega.{arith}
-use Rattle.record_texts.specs.Laws.{put-none}
+use Rattle.record_texts.specs.Laws.Putting.{put-none}
 use Rattle.record_diary_text.specs.Lines as slot
 use Rattle.record_offer_text.specs.Lines.{lineText}
 use Rattle.record_offer_text.proofs.put_line.Statement.{statement}

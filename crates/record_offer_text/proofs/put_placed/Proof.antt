@@ -1,7 +1,7 @@
 -- `record_offer_text::put_placed` meets its contract: six pieces, one behind the other.
 use borrow.Author.Needs.{needs}
 use native.Mathlib.Omega.{arith}
-use Rattle.record_texts.specs.Laws.{then}
+use Rattle.record_texts.specs.Laws.Putting.{then}
 use Rattle.record_offer_text.specs.Lines.{placedText}
 use Rattle.record_offer_text.proofs.put_placed.Statement.{statement}
 use Rattle.record_offer_text.proofs.put_placed.Tie as tie

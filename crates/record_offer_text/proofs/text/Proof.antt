@@ -1,7 +1,7 @@
 -- `record_offer_text::text` meets its contract: the line, and the entries behind it.
 use borrow.Author.Needs.{needs}
 use native.Mathlib.Omega.{arith}
-use Rattle.record_texts.specs.Laws.{then}
+use Rattle.record_texts.specs.Laws.Putting.{then}
 use Rattle.record_offer_text.specs.Lines.{textOf}
 use Rattle.record_offer_text.proofs.text.Statement.{statement}
 use Rattle.record_offer_text.proofs.text.Tie as tie

@@ -2,7 +2,7 @@
 use borrow.Author.Needs.{needs}
 use native.Mathlib.Omega.{arith}
 use mathlib.Core.List.{[], _∷_}
-use Rattle.record_texts.specs.Laws.{then}
+use Rattle.record_texts.specs.Laws.Putting.{then}
 use Rattle.record_texts.proofs.put_value.Statement.{statement}
 use Rattle.record_texts.proofs.put_value.Tie as tie
 

@@ -13,8 +13,8 @@ use Rattle.timeline.specs.Bookings.{bookingAt, bookingsTo, bookings, tot
 use Rattle.cells.specs.Cells.{before}
 use Rattle.cells.specs.Laws.Cells.{before-step}
 use Rattle.timeline.specs.Valid.{filledFrom}
-use Rattle.timeline.proofs.Rules.{cell-facts, CellFacts}
-use Rattle.timeline.proofs.Rows.{weight-le, total-snoc, rows-step}
+use Rattle.timeline.specs.Laws.Rules.{cell-facts, CellFacts}
+use Rattle.timeline.specs.Laws.Rows.{weight-le, total-snoc, rows-step}
 use Rattle.timeline.proofs.filled.Statement.{statement}
 use Rattle.timeline.proofs.filled.Tie as tie
 

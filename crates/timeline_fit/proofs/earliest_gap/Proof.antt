@@ -5,8 +5,8 @@ use mathlib.Core.Logic.{⊎-elim}
 use Prim.Native.Nat.{_-_, _≤_}
 use native.Mathlib.Omega.{arith}
 use lib.ListN.{length}
-use Rattle.timeline.proofs.Rules.{rules}
-use Rattle.timeline.proofs.Columns.{columns}
+use Rattle.timeline.specs.Laws.Rules.{rules}
+use Rattle.timeline.specs.Laws.Columns.{columns}
 use Rattle.cells.specs.Laws.Cells.{before-pos, before-zero}
 use Rattle.timeline_fit.proofs.Gaps.{Walk, walk-start, walk-step, walk-end, walk-stop, plain}
 use Rattle.timeline_fit.proofs.earliest_gap.Statement.{statement}

@@ -9,8 +9,8 @@ use native.Mathlib.Omega.{arith}
 use lib.ListN.{length, getD}
 use Rattle.timeline.specs.Bookings.{bookingsTo}
 use Rattle.timeline_fit.specs.Steps.{startOf}
-use Rattle.timeline.proofs.Rules.{rules}
-use Rattle.timeline.proofs.Columns.{columns}
+use Rattle.timeline.specs.Laws.Rules.{rules}
+use Rattle.timeline.specs.Laws.Columns.{columns}
 use Rattle.timeline_fit.proofs.Fitting.{fitsOver, over-yes, over-shut, over-full, fit-listed, fit-unlisted}
 use Rattle.timeline_resume.proofs.Trying.{candidate-range}
 use Rattle.timeline_fit.proofs.first_fit.Statement.{statement}

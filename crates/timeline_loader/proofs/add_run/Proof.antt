@@ -53,7 +53,8 @@ use Rattle.timeline_loader.specs.declared.TimeWindow.{TimeWindow}
 use Rattle.calendar.specs.declared.Calendar.{Calendar}
 use Rattle.calendar.specs.declared.Added.{Added}
 use Rattle.timeline_loader.specs.Run.{addRun}
-use Rattle.timeline_loader.specs.Steps.{begunReply, stepReply, onward, onward-begun, onward-none, onward-refused, onward-step}
+use Rattle.timeline_loader.specs.Steps.{begunReply, stepReply, onward}
+use Rattle.timeline_loader.specs.Laws.Steps.{onward-begun, onward-none, onward-refused, onward-step}
 use Rattle.timeline_loader.proofs.Enter.{enters}
 use Rattle.timeline_loader.proofs.Plainly.{calls-plain}
 use Rattle.timeline_loader.proofs.Turns.{Below, again, whiles}

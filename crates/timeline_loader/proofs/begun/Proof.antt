@@ -2,7 +2,7 @@
 use borrow.Author.Needs.{needs}
 use borrow.Author.Tests.{not-true, not-false}
 use mathlib.Core.Path.{sym, _∙_}
-use Rattle.timeline_loader.specs.Steps.{begun-broken, begun-ruled}
+use Rattle.timeline_loader.specs.Laws.Steps.{begun-broken, begun-ruled}
 use Rattle.timeline_loader.proofs.begun.Statement.{statement}
 use Rattle.timeline_loader.proofs.begun.Tie as tie
 

@@ -1,7 +1,8 @@
 -- `timeline_loader::step` meets its contract.
 use borrow.Author.Needs.{needs}
 use mathlib.Core.Path.{sym}
-use Rattle.timeline_loader.specs.Steps.{stepReply, onward-refused, step-taken, step-refused}
+use Rattle.timeline_loader.specs.Steps.{stepReply}
+use Rattle.timeline_loader.specs.Laws.Steps.{onward-refused, step-taken, step-refused}
 use Rattle.timeline_loader.proofs.step.Statement.{statement}
 use Rattle.timeline_loader.proofs.step.Tie as tie
 

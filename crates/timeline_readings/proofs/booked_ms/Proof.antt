@@ -5,7 +5,7 @@ use mathlib.Core.Bool.{Bool, true, false, not, cond}
 use Rattle.timeline.specs.declared.ResourceTimeline.{ResourceTimeline}
 use Rattle.timeline.specs.Bookings.{bookings, total}
 use Rattle.timeline.specs.Valid.{valid}
-use Rattle.timeline.proofs.Rules.{rules}
+use Rattle.timeline.specs.Laws.Rules.{rules}
 use Rattle.timeline_readings.specs.Reading.{value, refused, read, bookedRead}
 use Rattle.timeline_readings.proofs.booked_ms.Statement.{statement}
 use Rattle.timeline_readings.proofs.booked_ms.Tie as tie

@@ -4,9 +4,9 @@ use borrow.Author.Tests.{not-true, not-false}
 use mathlib.Core.Path.{refl, sym, _∙_}
 use native.Mathlib.Omega.{arith}
 use Rattle.timeline_readings.specs.Reading.{readOf, read}
-use Rattle.timeline.proofs.Rules.{rules}
+use Rattle.timeline.specs.Laws.Rules.{rules}
 use Rattle.cells.specs.Laws.Cells.{before-pos, before-zero}
-use Rattle.timeline.proofs.Columns.{latest-last}
+use Rattle.timeline.specs.Laws.Columns.{latest-last}
 use Rattle.timeline_readings.proofs.latest_end.Statement.{statement}
 use Rattle.timeline_readings.proofs.latest_end.Tie as tie
 

@@ -9,8 +9,8 @@ use native.Mathlib.Omega.{arith}
 use lib.ListN.{length, getD}
 use Rattle.calendar_work.specs.Layout.{foundOf}
 use Rattle.timeline.specs.Bookings.{bookingsTo}
-use Rattle.timeline.proofs.Rules.{rules}
-use Rattle.timeline.proofs.Columns.{columns}
+use Rattle.timeline.specs.Laws.Rules.{rules}
+use Rattle.timeline.specs.Laws.Columns.{columns}
 use Rattle.timeline_resume.proofs.Finding.{freeUntil, endOver, until-end, until-none, start-listed, start-unlisted}
 use Rattle.timeline_resume.proofs.Trying.{candidate-range}
 use Rattle.timeline_resume.proofs.first_resumable.Statement.{statement}

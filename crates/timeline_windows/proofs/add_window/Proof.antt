@@ -2,7 +2,7 @@
 use borrow.Author.Needs.{needs}
 use mathlib.Core.Path.{ap, _∙_}
 use Rattle.timeline.specs.Book.{calendarReply}
-use Rattle.timeline.proofs.Rules.{rules}
+use Rattle.timeline.specs.Laws.Rules.{rules}
 use Rattle.timeline_windows.proofs.add_window.Statement.{statement}
 use Rattle.timeline_windows.proofs.add_window.Tie as tie
 

@@ -7,7 +7,7 @@ use lib.ListN.{length, getD}
 use lib.Ieee.{ofBits}
 use Rattle.activity_speeds.proofs.Bounds.{within-more}
 use Rattle.activity.specs.Lawful.{leadingOf}
-use Rattle.activity.proofs.Holding.{Walk, walk-start, walk-step, walk-own, walk-base}
+use Rattle.activity.specs.Laws.Holding.{Walk, walk-start, walk-step, walk-own, walk-base}
 use Rattle.activity.proofs.core.duration_on.Statement.{statement}
 use Rattle.activity.proofs.core.duration_on.Tie as tie
 

@@ -8,8 +8,9 @@ use lib.Bits.{bitAnd}
 use lib.Dec.{eqb}
 use Rattle.activity.specs.declared.ResourceRequirement.{ResourceRequirement}
 use Rattle.activity.specs.Serving.{candidate, serves}
-use Rattle.activity.proofs.Masks.{covers-yes, covers-no}
-use Rattle.calendar.specs.Sets.{bit, bit-and}
+use Rattle.activity.specs.Laws.Masks.{covers-yes, covers-no}
+use Rattle.calendar.specs.Sets.{bit}
+use Rattle.calendar.specs.Laws.Sets.{bit-and}
 use Rattle.activity.proofs.core.serves.Statement.{statement}
 use Rattle.activity.proofs.core.serves.Tie as tie
 

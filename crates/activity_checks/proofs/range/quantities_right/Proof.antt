@@ -12,7 +12,7 @@ use Rattle.activity.specs.declared.ResourceRequirement.{ResourceRequirement}
 use Rattle.cells.specs.Every.{every}
 use Rattle.cells.specs.Laws.Every.{first-stop, first-more, first-done}
 use Rattle.activity.specs.Check.{quantity, quantityRight, quantitiesRight, noRequirement}
-use Rattle.activity.proofs.Passing.{quantity-step, quantity-end}
+use Rattle.activity.specs.Laws.Passing.{quantity-step, quantity-end}
 use Rattle.activity_checks.proofs.range.quantities_right.Statement.{statement}
 use Rattle.activity_checks.proofs.range.quantities_right.Tie as tie
 

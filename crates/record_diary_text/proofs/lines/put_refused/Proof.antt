@@ -2,7 +2,7 @@
 use borrow.Author.Needs.{needs}
 use native.Mathlib.Omega.{arith}
 use mathlib.Core.List.{[], _∷_}
-use Rattle.record_texts.specs.Laws.{then}
+use Rattle.record_texts.specs.Laws.Putting.{then}
 use Rattle.record_diary_text.specs.Lines.{textOf}
 use Rattle.record_diary_text.proofs.lines.put_refused.Statement.{statement}
 use Rattle.record_diary_text.proofs.lines.put_refused.Tie as tie

@@ -1,7 +1,7 @@
 -- `record_diary_text::lines::text` meets its contract: by the cases of the line.
 use borrow.Author.Needs.{needs}
 use native.Mathlib.Omega.{arith}
-use Rattle.record_texts.specs.Laws.{put-none}
+use Rattle.record_texts.specs.Laws.Putting.{put-none}
 use Rattle.record_diary_text.specs.Lines.{textOf, lineOf}
 use Rattle.record_diary_text.proofs.lines.text.Statement.{statement}
 use Rattle.record_diary_text.proofs.lines.text.Tie as tie

@@ -14,7 +14,7 @@ use Rattle.timeline.proofs.ResourceTimeline.book.Statement.{statement}
 use Rattle.timeline.proofs.ResourceTimeline.book.Tie as tie
 
 -- what no refusal says of a booking
-record Bookable (t : ResourceTimeline) (s e u : ℕ) : Type 0 where
+record Accepting (t : ResourceTimeline) (s e u : ℕ) : Type 0 where
   keeps : valid t ≡ true
   room : t .len < 64
   order : s < e
@@ -22,7 +22,7 @@ record Bookable (t : ResourceTimeline) (s e u : ℕ) : Type 0 where
   some : 1 ≤ u
   few : u ≤ 10000
 
-bookable : (t : ResourceTimeline) (s e u : ℕ) → bookRefusal t s e u ≡ 0 → Bookable t s e u
+bookable : (t : ResourceTimeline) (s e u : ℕ) → bookRefusal t s e u ≡ 0 → Accepting t s e u
 unfolding bookRefusal
 bookable t s e u z =
     let x0 = unrefused (not (valid t)) 14 _ z in

@@ -14,8 +14,8 @@ use Rattle.calendar.specs.Add.{empty}
 use Rattle.calendar.specs.Valid as calendar
 use Rattle.timeline.specs.Valid.{valid}
 use Rattle.timeline.specs.Diary.{capacityOf, diary}
-use Rattle.timeline.proofs.Rows.{empty-is}
-use Rattle.timeline.proofs.Keeping.{diary-keeps, order-end}
+use Rattle.timeline.specs.Laws.Rows.{empty-is}
+use Rattle.timeline.specs.Laws.Keeping.{diary-keeps, order-end}
 use Rattle.timeline.proofs.ResourceTimeline.new.Statement.{statement}
 use Rattle.timeline.proofs.ResourceTimeline.new.Tie as tie
 

@@ -1,6 +1,0 @@
--- Laws on plain values, for the proofs of this crate and of those above it.
-pub mod Passing
-pub mod Masks
-pub mod Judging
-pub mod Holding
-pub mod Meaning

@@ -1,0 +1,2 @@
+-- Small runs on the definitions.
+pub mod Runs

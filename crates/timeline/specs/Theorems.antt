@@ -1,0 +1,2 @@
+-- What the definitions amount to.
+pub mod Meaning
