@@ -43,7 +43,7 @@ same-parts m n (negsuc a) (negsuc b) o p h =
     let r = odd-pow m n (suc b) (suc a) o p (ap (λ (x : ℕ). x * 2 ^ suc b) (sym (mul-one m)) ∙ h ∙ ap (λ (x : ℕ). x * 2 ^ suc a) (mul-one n)) in
     (r .0, ap negsuc (suc-inj (sym (r .1))))
 
--- what `calendar_fits` says of a value above 0
+-- what `fits` says of a value above 0
 pub record Representable (f : Format) (m : ℕ) (e : ℤ) : Type 0 where
   pub odd : m % 2 ≡ 1
   pub few : m < 2 ^ prec f

@@ -22,6 +22,6 @@ Known b places = (n : ℕ) → n < 16 → getD places n 0 ≡ placeOf (lookup b 
 abbrev pub Lengths : Board → List ℕ → Type 0
 Lengths b lens = (i : ℕ) → i < b .len → getD lens i 0 ≡ resourceAt b i .timeline .len
 
--- every number passes: off a valid board the transport is 0 (proofs/Meaning.antt, `transport-is`)
+-- every number passes: off a valid board the transport is 0 (Theorems/Meaning.antt, `transport-is`)
 unfoldable pub anywhere : ℕ → Bool
 anywhere n = true

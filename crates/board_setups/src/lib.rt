@@ -1,5 +1,5 @@
-// Setups by a matrix and transport, for the crates above (01, 'Durations, setups, transport'; `setup_ms` in models/constraint.rs,
-// `transport_between` in models/resource.rs).
+// Setups by a matrix, and transport (01, 'Durations, setups, transport'; `setup_ms` in models/constraint.rs, `transport_between` in
+// models/resource.rs). It is for the crates above: nothing is checked again.
 use board::LastCategory;
 use board::TransitionMatrix;
 ghost use mathlib.Core.Path.{_≡_};

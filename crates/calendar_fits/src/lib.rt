@@ -1,5 +1,7 @@
-// What fits a calendar and what is working time (`interval_fits`, `is_working_time` in models/calendar.rs; 01, 'Calendar'), for the crates
-// above: the calendar is valid, and nothing is checked again.
+// What fits a calendar and what is working time (`interval_fits`, `is_working_time` in models/calendar.rs; 01, 'Calendar'). It is for the
+// crates above: the calendar is valid, and nothing is checked again.
+// Searched are the windows for one that holds the span or the instant, then the blocks for one in the way, each once and one after
+// another: at most 64 looks.
 use calendar::Calendar;
 use calendar::TimeWindows;
 ghost use mathlib.Core.Path.{_≡_};

@@ -1,6 +1,8 @@
-// A resource and its companions: where they stand on the board, who of them is asked next, and how they are asked one after another, each
-// from the start that the one before gave (the head of the loop over the serving resources in `place_activity`, and `with_companions`, in
-// scheduler/simple.rs; 01, 'Choosing', its first half: a companion not on the board rules the resource out).
+// A resource and its companions: where they stand on the board, who of them is asked next, and how they are asked one after another (the
+// head of the loop over the serving resources in `place_activity`, and `with_companions`, in scheduler/simple.rs; 01, 'Choosing', its
+// first half).
+// Each is asked from the start that the one before gave, and the resource again where the start has moved on. A companion not on the board
+// rules the resource out.
 use activity::ResourceRequirement;
 use calendar::limits::NEVER;
 use calendar_work::WorkEnd;

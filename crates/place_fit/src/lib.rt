@@ -1,5 +1,9 @@
 // Fitting: the least start at which all entries and the order's own calendar fit unbroken (the second half of `place_activity` and
 // `own_timeline` in scheduler/simple.rs; 01, 'Fitting').
+// Searched are the instants from the choosing instant on: each diary is asked from the start that the one before gave, and the first again
+// where the start has moved on, until all stay. Each move leads to an event on one of the diaries or on the own calendar, so it ends
+// (`asked-less` in scheduler/specs/Laws/Asking.antt); there are at most 2,112 of them. The Rust asks all from one instant and goes on to
+// the latest answer; the least common start is the same (`closing-rounds` in scheduler/specs/Theorems/Counting.antt).
 use board::Board;
 use calendar::Calendar;
 use place_entries::Entries;

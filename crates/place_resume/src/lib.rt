@@ -1,5 +1,8 @@
 // Fitting of resumable work: the least start over joint working time from which all are free to the joint end (`place_resumable` in
 // scheduler/simple.rs; 01, 'Fitting').
+// Searched are the choosing instant and the start candidates of all diaries after it, in rising order, each with the end of the work over
+// the joint working time, which is laid out once. Each instant tried is later than the last and an event on one of the diaries or on the
+// own calendar, so it ends. The Rust gathers and sorts the same instants first, and has no rounds here.
 use board::Board;
 use calendar::Calendar;
 use calendar::limits::NEVER;

@@ -1,5 +1,5 @@
-// The text that an answer of `offer` prints (docs/RECORDS.md): its line and, behind a placement's, a line for each entry of the slate
-// that it speaks of.
+// The text that an answer of `offer` prints (docs/RECORDS.md): its line and, behind a placement's, a line for each entry of the slate that
+// it speaks of.
 use record_diary_text::Line;
 use record_offer::OfferAnswer;
 use record_texts::put;

@@ -1,4 +1,4 @@
--- The reply of committing, and the board afterwards.
+-- The reply of committing, the board afterwards, and what it leaves of a resource.
 use Prim.Native.Nat.{ℕ, _+_, _≤_, _<_}
 use mathlib.Core.Bool.{Bool, not, _&&_, _||_, cond}
 use mathlib.Core.List.{List, [], _∷_, map}

@@ -13,6 +13,7 @@ use Rattle.board.specs.declared.Board.{Board}
 use Rattle.board.specs.Resources.{resourcesOf}
 use Rattle.scheduler.specs.Shares.{startOn}
 
+-- on one diary: window starts, block ends, booking ends
 unfoldable pub events : ResourceTimeline → List ℕ
 events t =
     take (t .calendar .windows .len) (t .calendar .windows .starts)

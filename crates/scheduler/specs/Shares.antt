@@ -9,13 +9,15 @@ use mathlib.Core.List.{[]}
 use Rattle.calendar.specs.declared.Calendar.{Calendar}
 use Rattle.timeline.specs.Diary.{diary}
 
--- unbroken or resumable
+-- the least start on one share, unbroken or resumable
 unfoldable pub startOn : Bool → ℕ → Share → ℕ → Found
 startOn resumable span x t = cond resumable (earliestResumable (x .timeline) t span (x .units)) (earliestFit (x .timeline) t span (x .units))
 
+-- what is read past the end of a list
 abbrev pub noShare : Share
 noShare = record { timeline = noDiary; units = 0 }
 
+-- the order's own calendar: a diary that nothing books (the Rust's `own_timeline`)
 abbrev pub ownShare : Calendar → Share
 ownShare own = record { timeline = diary 1 own []; units = 1 }
 

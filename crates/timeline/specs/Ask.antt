@@ -44,6 +44,6 @@ asked t from span u reply = cond (not (valid t)) (refused 15) (refusedOr refused
 abbrev pub fitReply : ResourceTimeline → ℕ → ℕ → ℕ → AskReply
 fitReply t from span u = asked t from span u (unbroken span (earliestFit t from span u))
 
--- asking for resumable work (without a calendar the same: proofs/Meaning.antt, `no-calendar`)
+-- asking for resumable work (without a calendar the same: Theorems/Meaning.antt, `no-calendar`)
 abbrev pub resumableReply : ResourceTimeline → ℕ → ℕ → ℕ → AskReply
 resumableReply t from work u = asked t from work u (resumed t work (earliestResumable t from work u))

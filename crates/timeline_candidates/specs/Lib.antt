@@ -1,2 +1,2 @@
--- What the candidates of a diary are.
+-- What the start candidates of a diary are.
 pub mod Steps

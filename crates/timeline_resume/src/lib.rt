@@ -1,5 +1,7 @@
-// The least start of resumable work on a diary (`earliest_resumable` in scheduler/timeline.rs; 01, 'Diary'), for the crates above: the diary
-// is valid, and nothing is checked again.
+// The least start of resumable work on a diary (`earliest_resumable` in scheduler/timeline.rs; 01, 'Diary'). It is for the crates above:
+// the diary is valid, and nothing is checked again.
+// Searched are the start candidates in rising order, each with the end of the work over the diary's working time, which is laid out once.
+// Each is tried once, so it ends: at most 129 candidates.
 use calendar_work::WorkEnd;
 use timeline::ResourceTimeline;
 ghost use mathlib.Core.Path.{_≡_};

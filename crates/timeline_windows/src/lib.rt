@@ -1,4 +1,5 @@
-// Windows and blocks of a diary's calendar, one at a time (01, the replies of 'Window or block'); `timeline_loader` adds a run of them.
+// Windows and blocks of a diary's calendar, one at a time (01, the replies of 'Window or block'). A run of them is added by
+// `timeline_loader`.
 use calendar::Added;
 use timeline::Booked;
 use timeline::ResourceTimeline;

@@ -49,7 +49,7 @@ mod scheduler {
     pub mod timeline;
 }
 
-use record_diary::Known;
+use records::Known;
 use sources::{Source, REFERENCE};
 use std::io::{Read, Write};
 use std::path::Path;
@@ -122,7 +122,7 @@ fn show(kinds: &str) -> bool {
 
 fn make() -> bool {
     let lines = String::from_utf8(input()).expect("readable lines");
-    let bytes = record_diary::encode(&record_diary::parse_all(&lines));
+    let bytes = records::encode(&records::parse_all(&lines));
     std::io::stdout().write_all(&bytes).is_ok()
 }
 
@@ -130,7 +130,7 @@ fn random(kinds: &str, seed: &str, cases: &str) -> bool {
     let mut r = random::Random(seed.parse().expect("a seed is a number"));
     let size = random::Size::random(&mut r);
     let cases = cases.parse().expect("how many cases");
-    let bytes = record_diary::encode(&runs::make(&mut r, known(kinds), size, cases));
+    let bytes = records::encode(&runs::make(&mut r, known(kinds), size, cases));
     std::io::stdout().write_all(&bytes).is_ok()
 }
 

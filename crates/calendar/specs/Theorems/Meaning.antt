@@ -1,5 +1,4 @@
--- What the definitions of a calendar amount to, in the plainest terms. What a search finds, and when work ends, without any bound, stand in
--- `Searching.antt` (`Earliest`, `Answers`) and `WorkEnds.antt` (`worked`, `Ends`).
+-- What the definitions of a calendar amount to, in the plainest terms (Plain.antt): what fits, what is worked, and where joint work ends.
 use mathlib.Core.Path.{_≡_, sym, _∙_}
 use mathlib.Core.Bool.{Bool, true, false, not, _&&_}
 use mathlib.Core.List.{List}

@@ -1,4 +1,4 @@
--- The instants at which something can first start: a window start, a block end, a booking end of some diary, or an arrival.
+-- The instants at which something can first start, as lists: what is among them, and how many are left after one.
 use mathlib.Core.Path.{_≡_, refl, sym, _∙_}
 use mathlib.Core.Bool.{Bool, true, false, _||_, cond}
 use mathlib.Core.List.{List, [], _∷_, _++_, map}

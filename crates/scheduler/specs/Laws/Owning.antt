@@ -1,4 +1,4 @@
--- The order's own calendar as a diary that nothing books, in front of the entries' diaries (the Rust's `own_timeline`).
+-- The order's own calendar as a diary that nothing books, in front of the entries' diaries: together they suit as they do apart.
 use mathlib.Core.Path.{_≡_, refl, sym, ap, _∙_}
 use mathlib.Core.Bool.{Bool, true, false, _&&_, and-comm, and-true}
 use mathlib.Core.List.{List, [], _∷_, map}

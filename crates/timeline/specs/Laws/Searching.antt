@@ -1,4 +1,4 @@
--- A search from candidate to candidate finds the least instant, where the test holds one earlier too unless a candidate stands between.
+-- A search from start candidate to start candidate finds the least instant, where the test holds one earlier too unless one stands between.
 use mathlib.Core.Path.{_≡_, refl}
 use mathlib.Core.Bool.{Bool, true, false}
 use mathlib.Core.Logic.{⊎-elim}
