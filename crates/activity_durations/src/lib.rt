@@ -1,5 +1,5 @@
-// The durations of an order over the resources held, for a caller that has checked nothing (duration_on in models/activity.rs; 01, durations and
-// speeds).
+// The durations of an order over the resources held, for a caller that has checked nothing (duration_on in models/activity.rs; 01,
+// durations and speeds).
 use activity::Activity;
 use activity::DurationAnswer;
 ghost use mathlib.Core.Path.{_≡_};

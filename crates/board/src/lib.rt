@@ -1,6 +1,6 @@
 // A board: resources in board order with their companions, diaries, transition matrices and last categories, and the transport
-// between them (models/resource.rs, models/constraint.rs; 01, setups and transport, and the board of 'Placing'). Its rules are checked by the
-// crate `board_rules`.
+// between them (models/resource.rs, models/constraint.rs; 01, setups and transport, and the board of 'Placing'). Its rules are
+// checked by the crate `board_rules`.
 use calendar::Calendar;
 use timeline::ResourceTimeline;
 ghost use mathlib.Core.Path.{_≡_};

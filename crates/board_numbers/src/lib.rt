@@ -1,4 +1,5 @@
-// The number of a resource: whether it is on the board, and the place of the resource that an entry or an ask names (01, 'Board entries': 5).
+// The number of a resource: whether it is on the board, and the place of the resource that an entry or an ask names (01,
+// 'Board entries': 5).
 use board::Board;
 ghost use mathlib.Core.Path.{_≡_};
 ghost use mathlib.Core.Bool.{_&&_};

@@ -1,5 +1,5 @@
-// Entries of a board: a resource (models/resource.rs; 01, 'Board entries'). Those of a matrix stand in `board_matrices`, those of the transport in
-// `board_transport`, and both are passed on; diaries are looked up and put back by `board_diaries`.
+// Entries of a board: a resource (models/resource.rs; 01, 'Board entries'). Those of a matrix stand in `board_matrices`, those of the
+// transport in `board_transport`, and both are passed on; diaries are looked up and put back by `board_diaries`.
 use board::Board;
 use board::Entered;
 use board::LastCategory;

@@ -1,5 +1,5 @@
-// The least start of resumable work on a diary (`earliest_resumable` in scheduler/timeline.rs; 01, 'Diary'), for the crates above: the diary
-// is valid, and nothing is checked again.
+// The least start of resumable work on a diary (`earliest_resumable` in scheduler/timeline.rs; 01, 'Diary'), for the crates above: the
+// diary is valid, and nothing is checked again.
 use calendar_work::WorkEnd;
 use timeline::ResourceTimeline;
 ghost use mathlib.Core.Path.{_≡_};
