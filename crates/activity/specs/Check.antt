@@ -66,7 +66,9 @@ requirementsOf a = take (a .len) (a .requirements)
 
 -- ready, release and every duration of the order are in range
 unfoldable pub timesRight : Activity → ℕ → Bool
-timesRight a ready = leb ready lastInstant && (releaseRight (a .release) && (short (a .duration) && every (λ t. timingShort (t .timing)) (a .timings)))
+timesRight a ready =
+    leb ready lastInstant
+    && (releaseRight (a .release) && (short (a .duration) && every (λ t. timingShort (t .timing)) (a .timings)))
 
 -- 5 category; 1 ready, release or a duration; 6 requirements over 4, a quantity under 1 or total over 8; 3 usage; 8 speed; 0 for none
 unfoldable pub activityRefusal : Activity → ℕ → ℕ

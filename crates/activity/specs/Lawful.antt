@@ -1,4 +1,5 @@
--- What the functions behind the checks may take for granted of an order (`accepted` in Laws/Judging.antt: an order that is not refused is lawful).
+-- What the functions behind the checks may take for granted of an order (`accepted` in Laws/Judging.antt: an order that is
+-- not refused is lawful).
 use mathlib.Core.Path.{_≡_}
 use mathlib.Core.Bool.{true}
 use mathlib.Core.List.{List}

@@ -34,10 +34,25 @@ blankDiary = record {
 }
 
 abbrev pub blankMatrix : TransitionMatrix
-blankMatrix = record { present = false; default = pos 0; initial = pos 0; transitions = replicate 256 (pos 0); initials = replicate 16 (pos 0) }
+blankMatrix = record {
+  present = false;
+  default = pos 0;
+  initial = pos 0;
+  transitions = replicate 256 (pos 0);
+  initials = replicate 16 (pos 0);
+}
 
 abbrev pub blankResource : Resource
-blankResource = record { number = 0; kind = 0; skills = 0; companions = replicate 4 0; count = 0; timeline = blankDiary; matrix = blankMatrix; last = Nothing }
+blankResource = record {
+  number = 0;
+  kind = 0;
+  skills = 0;
+  companions = replicate 4 0;
+  count = 0;
+  timeline = blankDiary;
+  matrix = blankMatrix;
+  last = Nothing;
+}
 
 unfoldable pub emptyBoard : Board
 emptyBoard = record { resources = replicate 16 blankResource; len = 0; transport = replicate 256 0 }

@@ -10,7 +10,8 @@ ghost use mathlib.Core.Bool.{cond};
 ghost use lib.ListN.{getD};
 ghost use lib.IntN.{pos};
 ghost use Rattle.cells.specs.Every.{everyFrom};
-ghost use Rattle.board.specs.Valid.{isZero, entryRight, ownRight, entryCell, matrixRight, companionCell, companionsRight, lastRight, resourceRight, diaryBlank, lastBlank, resourceBlank};
+ghost use Rattle.board.specs.Valid.{isZero, entryRight, ownRight, entryCell, matrixRight, companionCell, companionsRight, lastRight};
+ghost use Rattle.board.specs.Valid.{resourceRight, diaryBlank, lastBlank, resourceBlank};
 
 // The default or the initial of a matrix.
 fn own_right(present: bool, ms: i64) -> bool

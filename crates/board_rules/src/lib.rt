@@ -6,10 +6,8 @@ mod rules;
 
 ghost use mathlib.Core.Path.{_≡_};
 ghost use mathlib.Core.Bool.{true};
-ghost use Prim.Native.Nat.{ℕ, _≤_, _<_};
-ghost use lib.ListN.{getD};
 ghost use Rattle.board.specs.Valid.{valid};
-ghost use Rattle.board.specs.Places.{Known, Lengths};
+ghost use Rattle.board.specs.Places.{Known, Lengths, FewBookings};
 
 // Whether the board keeps the rules; if so, the place of each number on it, 16 for a number that is not there, and how many bookings
 // the diary at each place has.
@@ -20,7 +18,7 @@ pub struct Places {
 }
 
 pub fn places_of(b: Board) -> Places
-    ensures { λ r. ⌜ (r .right ≡ valid b) × (valid b ≡ true → Known b (r .places) × Lengths b (r .lens) × ((i : ℕ) → i < 16 → getD (r .lens) i 0 ≤ 64)) ⌝ }
+    ensures { λ r. ⌜ (r .right ≡ valid b) × (valid b ≡ true → Known b (r .places) × Lengths b (r .lens) × FewBookings (r .lens)) ⌝ }
 {
     let len = b.len;
     let mut places: [usize; 16] = [16; 16];

@@ -20,7 +20,10 @@ addRefusal c held s e =
 
 -- no windows and no blocks: always open
 unfoldable pub empty : Calendar
-empty = record { windows = record { starts = replicate 32 0; ends = replicate 32 0; len = 0 }; blocks = record { starts = replicate 32 0; ends = replicate 32 0; len = 0 } }
+empty = record {
+  windows = record { starts = replicate 32 0; ends = replicate 32 0; len = 0 };
+  blocks = record { starts = replicate 32 0; ends = replicate 32 0; len = 0 };
+}
 
 -- the spans with [s, e) behind them
 unfoldable pub withSpan : TimeWindows → ℕ → ℕ → TimeWindows

@@ -1,5 +1,5 @@
 -- The limits of document 01, each said once.
-use Prim.Native.Nat.{ℕ, _^_}
+use Prim.Native.Nat.{ℕ, _^_, _≤_}
 
 -- an instant is whole milliseconds, 0 to 2^42
 abbrev pub lastInstant : ℕ
@@ -15,6 +15,9 @@ mostBookings = 64
 
 abbrev pub mostUnits : ℕ
 mostUnits = 10000
+
+abbrev pub UnitsInRange : ℕ → Type 0
+UnitsInRange units = (1 ≤ units) × (units ≤ mostUnits)
 
 -- asked: from 0 to 2^43, a span 0 to 2^53
 abbrev pub lastAsked : ℕ

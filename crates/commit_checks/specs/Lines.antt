@@ -1,12 +1,15 @@
 -- How the code checks the rows of a slate.
 use Prim.Native.Nat.{ℕ, _+_, _<_}
 use mathlib.Core.Path.{_≡_}
-use mathlib.Core.Bool.{Bool, _&&_}
+use mathlib.Core.Bool.{Bool, true, _&&_}
 use mathlib.Core.List.{List}
 use lib.ListN.{getD}
 use lib.Dec.{leb, ltb}
 use Rattle.calendar.specs.Limits.{mostUnits, mostBookings}
-use Rattle.scheduler.specs.Committing.{lineOf, linesOf, entriesOn}
+use Rattle.board.specs.declared.Board.{Board}
+use Rattle.board.specs.Valid.{valid}
+use Rattle.board.specs.Places.{Known, Lengths}
+use Rattle.scheduler.specs.Committing.{Line, lineOf, linesOf, entriesOn, linesRefusal, commitRefusal}
 
 -- the row names a number that has a place
 unfoldable pub numbered : List ℕ → List ℕ → Bool
@@ -23,3 +26,14 @@ roomy places lens tally row = leb (getD lens (getD places (lineOf row .number) 0
 -- how many of the first n rows name each number
 abbrev pub Counted : List (List ℕ) → ℕ → List ℕ → Type 0
 Counted slate n tally = (k : ℕ) → k < 16 → getD tally k 0 ≡ entriesOn k (linesOf n slate)
+
+-- r refuses some rows, on any board with these places and as many bookings in its diaries
+abbrev pub RowsRefusal : List ℕ → List ℕ → List Line → ℕ → ℕ → ℕ → ℕ → Type 0
+RowsRefusal places lens ls start end category r =
+    (b : Board) → valid b ≡ true → Known b places → Lengths b lens → r ≡ linesRefusal b ls start end category
+
+-- r refuses a commitment of the first `count` rows, on any board that was found right or not and, if right, has these
+abbrev pub CommitRefusal : Bool → List ℕ → List ℕ → List (List ℕ) → ℕ → ℕ → ℕ → ℕ → ℕ → Type 0
+CommitRefusal right places lens slate count start end category r =
+    (b : Board) → right ≡ valid b → (valid b ≡ true → Known b places × Lengths b lens)
+    → r ≡ commitRefusal b slate count start end category

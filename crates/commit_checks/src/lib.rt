@@ -6,11 +6,9 @@ ghost use mathlib.Core.List.{[]};
 ghost use Prim.Native.Nat.{ℕ, _≤_, _<_};
 ghost use lib.ListN.{length, getD, take};
 ghost use Rattle.cells.specs.Every.{every};
-ghost use Rattle.board.specs.declared.Board as declared;
-ghost use Rattle.board.specs.Valid.{valid};
-ghost use Rattle.scheduler.specs.Committing.{linesOf, linesRefusal};
-ghost use Rattle.board.specs.Places.{Known, Lengths};
-ghost use Rattle.commit_checks.specs.Lines.{numbered, metered, roomy, Counted};
+ghost use Rattle.board.specs.Places.{FewBookings};
+ghost use Rattle.scheduler.specs.Committing.{linesOf};
+ghost use Rattle.commit_checks.specs.Lines.{numbered, metered, roomy, Counted, RowsRefusal};
 
 // Each of the first `count` rows names a resource on the board.
 fn numbers_right(slate: &[[u64; 4]], count: usize, places: [usize; 16]) -> bool
@@ -77,7 +75,7 @@ fn room_right(
     tally: [u64; 16],
 ) -> bool
     requires { ⌜ (count ≤ length (now slate)) × (every (numbered places) (take count (now slate)) ≡ true) ⌝ }
-    requires { ⌜ ((k : ℕ) → k < 16 → getD lens k 0 ≤ 64) ⌝ }
+    requires { ⌜ FewBookings lens ⌝ }
     ensures { λ r. ⌜ r ≡ every (roomy places lens tally) (take count (now (slate .entry))) ⌝ }
 {
     let mut i: usize = 0;
@@ -103,8 +101,8 @@ pub fn lines_refusal(
     end: u64,
     category: u8,
 ) -> u8
-    requires { ⌜ (count ≤ length (now slate)) × ((k : ℕ) → k < 16 → getD lens k 0 ≤ 64) ⌝ }
-    ensures { λ r. ⌜ ((b : declared.Board) → valid b ≡ true → Known b places → Lengths b lens → r ≡ linesRefusal b (linesOf count (now (slate .entry))) start end category) ⌝ }
+    requires { ⌜ (count ≤ length (now slate)) × FewBookings lens ⌝ }
+    ensures { λ r. ⌜ RowsRefusal places lens (linesOf count (now (slate .entry))) start end category r ⌝ }
 {
     if !numbers_right(slate, count, places) {
         return 5;

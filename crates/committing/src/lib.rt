@@ -7,18 +7,16 @@ use board::Resource;
 use board_rules::Places;
 ghost use mathlib.Core.Path.{_≡_};
 ghost use mathlib.Core.Bool.{true};
-ghost use Prim.Native.Nat.{ℕ, _≤_, _<_};
-ghost use lib.ListN.{getD};
-ghost use Rattle.calendar.specs.Limits.{mostUnits};
+ghost use Prim.Native.Nat.{_<_};
+ghost use Rattle.calendar.specs.Limits.{UnitsInRange};
 ghost use Rattle.timeline.specs.Valid as timeline;
-ghost use Rattle.board.specs.declared.Board as declared;
-ghost use Rattle.board.specs.Valid.{valid};
-ghost use Rattle.scheduler.specs.Committing.{booked, commitRefusal, commitReply, Bookable};
-ghost use Rattle.board.specs.Places.{Known, Lengths};
+ghost use Rattle.board.specs.Places.{FewBookings};
+ghost use Rattle.scheduler.specs.Committing.{booked, commitReply, Bookable};
+ghost use Rattle.commit_checks.specs.Lines.{CommitRefusal};
 
 // The resource with a booking more; one with a matrix takes the category, unless it is a companion.
 fn book_on(r: Resource, start: u64, end: u64, category: u8, units: u32, companion: bool) -> Resource
-    requires { ⌜ (timeline.valid (r .timeline) ≡ true) × (r .timeline .len < 64) × Bookable start end category × (1 ≤ units) × (units ≤ mostUnits) ⌝ }
+    requires { ⌜ (timeline.valid (r .timeline) ≡ true) × (r .timeline .len < 64) × Bookable start end category × UnitsInRange units ⌝ }
     ensures { λ x. ⌜ x ≡ booked start end category (record { number = r .number; units = units; companion = companion }) r ⌝ }
 {
     let t = r.timeline;
@@ -53,8 +51,8 @@ fn commit_refusal(
     end: u64,
     category: u8,
 ) -> u8
-    requires { ⌜ (p .right ≡ true → (k : ℕ) → k < 16 → getD (p .lens) k 0 ≤ 64) ⌝ }
-    ensures { λ r. ⌜ ((b : declared.Board) → p .right ≡ valid b → (valid b ≡ true → Known b (p .places) × Lengths b (p .lens)) → r ≡ commitRefusal b (now (slate .entry)) count start end category) ⌝ }
+    requires { ⌜ (p .right ≡ true → FewBookings (p .lens)) ⌝ }
+    ensures { λ r. ⌜ CommitRefusal (p .right) (p .places) (p .lens) (now (slate .entry)) count start end category r ⌝ }
 {
     if !p.right {
         return 15;

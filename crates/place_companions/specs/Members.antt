@@ -15,4 +15,8 @@ use Rattle.place_companions.specs.declared.Member.{Member}
 -- those in front have given
 unfoldable pub memberOf : ResourceRequirement → Plan → ℕ → List ℕ → ℕ → Asking → Member
 memberOf q p own places t g =
-    record { place = cond (serves q (p .number) (p .kind) (p .skills)) (seatOf own (take (p .count) (p .companions)) places (g .next)) 16; units = cond (ltb 0 (g .next)) 1 (q .usage); from = max (max t (p .arrival)) (g .start) }
+    record {
+      place = cond (serves q (p .number) (p .kind) (p .skills)) (seatOf own (take (p .count) (p .companions)) places (g .next)) 16;
+      units = cond (ltb 0 (g .next)) 1 (q .usage);
+      from = max (max t (p .arrival)) (g .start);
+    }

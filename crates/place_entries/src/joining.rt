@@ -2,12 +2,12 @@
 // 'Fitting').
 use scheduler::Entry;
 ghost use mathlib.Core.Path.{_≡_};
-ghost use mathlib.Core.List.{[], _++_, map};
+ghost use mathlib.Core.List.{map};
 ghost use Prim.Native.Nat.{_≤_};
-ghost use lib.ListN.{length, take, replicate};
-ghost use Rattle.scheduler.specs.Fitting.{among, joinEach, companionEntry};
+ghost use lib.ListN.{length, replicate};
+ghost use Rattle.scheduler.specs.Fitting.{among};
 ghost use Rattle.cells.specs.Every.{Each};
-ghost use Rattle.place_entries.specs.Cells.{noEntry, numberIn, Small};
+ghost use Rattle.place_entries.specs.Cells.{noEntry, numberIn, Small, firstEntries, numbersIn, withJoined};
 
 // The first `count` are the entries.
 pub struct Entries {
@@ -40,7 +40,7 @@ pub fn no_entries() -> Entries
 // An entry with this number is there.
 fn is_among(e: Entries, number: u8) -> bool
     requires { ⌜ e .count ≤ 24 ⌝ }
-    ensures { λ r. ⌜ r ≡ among number (map numberIn (take (e .count) (e .entries))) ⌝ }
+    ensures { λ r. ⌜ r ≡ among number (map numberIn (firstEntries e)) ⌝ }
 {
     let n = e.count;
     let mut i: usize = 0;
@@ -56,8 +56,8 @@ fn is_among(e: Entries, number: u8) -> bool
 
 // Companions not already there join once each, setup 0, unit 1.
 pub fn join_each(e: Entries, list: Companions) -> Entries
-    requires { ⌜ (e .count ≤ 8) × (list .len ≤ 32) × Each Small (take (list .len) (list .numbers)) ⌝ }
-    ensures { λ r. ⌜ (r .count ≤ 24) × (length (r .entries) ≡ 24) × (take (r .count) (r .entries) ≡ take (e .count) (e .entries) ++ map companionEntry (joinEach (map numberIn (take (e .count) (e .entries))) [] (take (list .len) (list .numbers)))) ⌝ }
+    requires { ⌜ (e .count ≤ 8) × (list .len ≤ 32) × Each Small (numbersIn list) ⌝ }
+    ensures { λ r. ⌜ (r .count ≤ 24) × (length (r .entries) ≡ 24) × (firstEntries r ≡ withJoined (firstEntries e) (numbersIn list)) ⌝ }
 {
     let n = list.len;
     let mut more = e;

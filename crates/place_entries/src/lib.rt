@@ -19,11 +19,10 @@ ghost use Rattle.calendar.specs.Limits.{longestSpan};
 ghost use Rattle.activity.specs.declared.Activity as ordered;
 ghost use Rattle.activity.specs.Lawful.{Lawful};
 ghost use Rattle.board.specs.declared.Board as declared;
-ghost use Rattle.scheduler.specs.Fitting.{greatestSetup, entriesOf, spanTogether};
-ghost use Rattle.scheduler.specs.Selections.{heldTo};
+ghost use Rattle.scheduler.specs.Fitting.{greatestSetup};
 ghost use Rattle.cells.specs.Every.{Each};
-ghost use Rattle.place_entries.specs.Parts.{setupAt, PlansKnown, Parted};
-ghost use Rattle.place_entries.specs.Cells.{noEntry, Small};
+ghost use Rattle.place_entries.specs.Cells.{Small, firstEntries, numbersIn};
+ghost use Rattle.place_entries.specs.Parts.{PlansKnown, PlansOfSomeBoard, PartsOf, EntriesHeld, HeldTogether};
 
 // The entries of a placement, and its span.
 pub struct Spanned {
@@ -41,8 +40,8 @@ struct Parts {
 
 // The first `count` of `more` go behind the list.
 fn push_each(list: Companions, more: [u8; 4], count: usize) -> Companions
-    requires { ⌜ (count ≤ 4) × (list .len + count ≤ 32) × Each Small (take (list .len) (list .numbers)) × ((k : ℕ) → k < count → Small (getD more k 0)) ⌝ }
-    ensures { λ r. ⌜ (r .len ≡ list .len + count) × (take (r .len) (r .numbers) ≡ take (list .len) (list .numbers) ++ take count more) × Each Small (take (r .len) (r .numbers)) ⌝ }
+    requires { ⌜ (count ≤ 4) × (list .len + count ≤ 32) × Each Small (numbersIn list) × ((k : ℕ) → k < count → Small (getD more k 0)) ⌝ }
+    ensures { λ r. ⌜ (r .len ≡ list .len + count) × (numbersIn r ≡ numbersIn list ++ take count more) × Each Small (numbersIn r) ⌝ }
 {
     let mut numbers = list.numbers;
     let n = list.len;
@@ -60,7 +59,7 @@ fn push_each(list: Companions, more: [u8; 4], count: usize) -> Companions
 // What the plans of those held have.
 fn parts_of(plans: [Plan; 16], held: [Selection; 8], count: usize) -> Parts
     requires { ⌜ (count ≤ 8) × ((b : declared.Board) × (a : ordered.Activity) × (ready : ℕ) × PlansKnown b a ready plans held count) ⌝ }
-    ensures { λ r. ⌜ ((b : declared.Board) (a : ordered.Activity) (ready : ℕ) → PlansKnown b a ready plans held count → Parted b (a .category) held count r) ⌝ }
+    ensures { λ r. ⌜ PartsOf plans held count r ⌝ }
 {
     let mut numbers: [u8; 8] = [0; 8];
     let mut matrices: [bool; 8] = [false; 8];
@@ -92,7 +91,7 @@ fn parts_of(plans: [Plan; 16], held: [Selection; 8], count: usize) -> Parts
 // The entries of those held, `own` being the setup without a matrix.
 fn held_entries(p: Parts, held: [Selection; 8], count: usize, own: u64) -> Entries
     requires { ⌜ count ≤ 8 ⌝ }
-    ensures { λ r. ⌜ (r .count ≡ count) × (length (r .entries) ≡ 24) × ((k : ℕ) → k < count → getD (r .entries) k noEntry ≡ setupAt p held own k) ⌝ }
+    ensures { λ r. ⌜ (r .count ≡ count) × (length (r .entries) ≡ 24) × EntriesHeld p held own count (r .entries) ⌝ }
 {
     let numbers = p.numbers;
     let matrices = p.matrices;
@@ -116,7 +115,7 @@ fn held_entries(p: Parts, held: [Selection; 8], count: usize, own: u64) -> Entri
 
 fn greatest_setup(e: Entries) -> u64
     requires { ⌜ e .count ≤ 24 ⌝ }
-    ensures { λ r. ⌜ r ≡ greatestSetup (take (e .count) (e .entries)) ⌝ }
+    ensures { λ r. ⌜ r ≡ greatestSetup (firstEntries e) ⌝ }
 {
     let n = e.count;
     let mut most: u64 = 0;
@@ -133,9 +132,9 @@ fn greatest_setup(e: Entries) -> u64
 
 // The entries of those held and their companions, and the span: the greatest setup among those held, process and teardown.
 pub fn entries_of(plans: [Plan; 16], a: Activity, held: [Selection; 8], count: usize) -> Spanned
-    requires { ⌜ Lawful (a .duration) (a .timings) × (a .category ≤ 15) × (count ≤ 8) × ((b : declared.Board) × (ready : ℕ) × PlansKnown b a ready plans held count) ⌝ }
+    requires { ⌜ Lawful (a .duration) (a .timings) × (a .category ≤ 15) × (count ≤ 8) × PlansOfSomeBoard a plans held count ⌝ }
     ensures { λ r. ⌜ (r .entries .count ≤ 24) × (length (r .entries .entries) ≡ 24) × (r .span ≤ longestSpan) ⌝ }
-    ensures { λ r. ⌜ ((b : declared.Board) (ready : ℕ) → PlansKnown b a ready plans held count → (take (r .entries .count) (r .entries .entries) ≡ entriesOf a (heldTo b held count)) × (r .span ≡ spanTogether a (heldTo b held count))) ⌝ }
+    ensures { λ r. ⌜ ((b : declared.Board) (ready : ℕ) → PlansKnown b a ready plans held count → HeldTogether b a held count r) ⌝ }
 {
     let p = parts_of(plans, held, count);
     let base = a.duration;

@@ -10,16 +10,11 @@ use place_entries::Entries;
 use timeline::ResourceTimeline;
 use timeline_fit::Start;
 ghost use mathlib.Core.Path.{_≡_};
-ghost use mathlib.Core.Bool.{true, false};
-ghost use Prim.Native.Nat.{_≤_};
-ghost use lib.ListN.{take};
-ghost use Rattle.calendar.specs.Limits.{lastAsked, longestSpan};
-ghost use Rattle.calendar.specs.Valid as calendar;
-ghost use Rattle.board.specs.Valid.{valid};
+ghost use mathlib.Core.Bool.{false};
 ghost use Rattle.scheduler.specs.Fitting.{sharesOf};
 ghost use Rattle.scheduler.specs.Shares.{ownShare};
-ghost use Rattle.board.specs.Places.{Known};
-ghost use Rattle.place_fit.specs.Closing.{EntriesOn, closing, fitOf};
+ghost use Rattle.place_entries.specs.Cells.{firstEntries};
+ghost use Rattle.place_fit.specs.Closing.{Fittable, closing, fitOf};
 
 // A start with its end, or none.
 pub enum Fit {
@@ -45,8 +40,8 @@ pub fn fit_unbroken(
     span: u64,
     from: u64,
 ) -> Fit
-    requires { ⌜ (valid b ≡ true) × Known b places × (calendar.valid own ≡ true) × EntriesOn b (e .entries) (e .count) × (from ≤ lastAsked) × (span ≤ longestSpan) ⌝ }
-    ensures { λ r. ⌜ fitOf r ≡ closing false (sharesOf b (take (e .count) (e .entries))) own span from ⌝ }
+    requires { ⌜ Fittable b places own e from span ⌝ }
+    ensures { λ r. ⌜ fitOf r ≡ closing false (sharesOf b (firstEntries e)) own span from ⌝ }
 {
     let first = own_timeline(own);
     let n = e.count + 1;

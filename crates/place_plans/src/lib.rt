@@ -4,14 +4,11 @@ use activity::Activity;
 use board::Resource;
 ghost use mathlib.Core.Path.{_≡_};
 ghost use mathlib.Core.Bool.{true};
-ghost use Prim.Native.Nat.{_+_, _≤_};
+ghost use Prim.Native.Nat.{_≤_};
 ghost use lib.ListN.{replicate};
-ghost use Rattle.calendar.specs.Limits.{lastAsked};
 ghost use Rattle.activity.specs.Lawful.{Lawful};
 ghost use Rattle.board.specs.Valid.{resourceRight};
-ghost use Rattle.board.specs.Transport.{greatestTransport};
-ghost use Rattle.board.specs.Places.{anywhere};
-ghost use Rattle.place_plans.specs.Plans.{blankPlan, planWith};
+ghost use Rattle.place_plans.specs.Plans.{blankPlan, planWith, arrivalBy, InReach};
 
 // A resource with its companions, its span, process time and arrival, whether it has a matrix, and the setup by that: none of them changes
 // from round to round.
@@ -49,8 +46,8 @@ pub fn no_plans() -> [Plan; 16]
 
 // The plan of a resource, from ready on.
 pub fn plan_of(r: Resource, a: Activity, ready: u64, transport: &[u64; 256]) -> Plan
-    requires { ⌜ (resourceRight r ≡ true) × Lawful (a .duration) (a .timings) × (a .category ≤ 15) × (ready + greatestTransport anywhere (now transport) (a .origins) (r .number) 16 ≤ lastAsked) ⌝ }
-    ensures { λ x. ⌜ x ≡ planWith a r (ready + greatestTransport anywhere (now (transport .entry)) (a .origins) (r .number) 16) ⌝ }
+    requires { ⌜ (resourceRight r ≡ true) × Lawful (a .duration) (a .timings) × (a .category ≤ 15) × InReach (now transport) a ready r ⌝ }
+    ensures { λ x. ⌜ x ≡ planWith a r (arrivalBy (now (transport .entry)) a ready r) ⌝ }
 {
     let base = a.duration;
     let timings = a.timings;

@@ -15,7 +15,7 @@ use Rattle.calendar.specs.declared.Calendar.{Calendar}
 use Rattle.cells.specs.Laws.Basics.{not-both, same-or-not, or-in-left, or-in-right, take-next}
 use Rattle.calendar.specs.Search.{Found, nothing, at, when}
 use Rattle.calendar.specs.Laws.Searching.{not-at}
-use Rattle.calendar.specs.Work.{joint, jointEnd, workEnd}
+use Rattle.calendar.specs.Work.{joint, jointEnd}
 use Rattle.calendar.specs.Valid as calendar
 use Rattle.cells.specs.Cells.{before}
 use Rattle.calendar_work.specs.Layout.{Layout, laid}
@@ -38,11 +38,8 @@ use Rattle.scheduler.specs.Laws.Asking.{share-event}
 use Rattle.timeline_candidates.specs.Steps.{Listed, Event}
 use Rattle.scheduler.specs.Laws.Together.{Sound, Calm}
 use Rattle.scheduler.specs.Laws.Owning.{suitsOn, leastOn}
+use Rattle.place_resume.specs.Trials.{endIf, EndKept}
 use Rattle.place_resume.proofs.Resuming.{endFree, Least, found, onward, over}
-
--- an end, where there is one
-abbrev endIf : Bool → ℕ → Found
-endIf free end = cond free (at end) nothing
 
 -- with no diary asked, the joint end itself
 end-none-asked : (s : ℕ) (f : Found) → f ≡ endFree [] s f
@@ -118,7 +115,7 @@ module _ (xs : List Share) (n work from : ℕ) (stops : List ℕ) where
 
     -- an instant to try, with no diary asked
     walks-begin : (edges : List ℕ) (len here end : ℕ) (free : Bool) → len ≤ 3201 → Layout (λ p. leb from p && joint (map calendarOf xs) p) edges len → Sought (suitsOn true xs work) from here
-        → (here < 2 ^ 63 → endIf free end ≡ workEnd (before edges len) (laid edges len) here work) → Walks edges len here end free (2 ^ 63) 0
+        → EndKept edges len work here free end → Walks edges len here end free (2 ^ 63) 0
     walks-begin edges len here end free short y s e = record {
       short = short;
       layout = y;
@@ -263,7 +260,7 @@ module _ (xs : List Share) (n work from : ℕ) (stops : List ℕ) where
       go false e = absurd (omega (arith, s .gathers e .start))
 
   pub state-begun : Sound xs → length xs ≡ n → (cs : List Calendar) (edges : List ℕ) (len next : ℕ) → length cs ≡ 25 → Onward edges len next → (x y : ℕ) (p : Bool) (z : ℕ) (q : Bool) → x ≡ next → z ≡ 2 ^ 63 → q ≡ true
-      → (next < 2 ^ 63 → endIf p y ≡ workEnd (before edges len) (laid edges len) next work) → State cs edges len x y p z q 0
+      → EndKept edges len work next p y → State cs edges len x y p z q 0
   state-begun sound long cs edges len next cells o x y p z q ex ez eq ends = record {
     few = omega arith;
     cells = cells;

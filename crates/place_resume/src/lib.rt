@@ -11,24 +11,20 @@ use place_entries::Entries;
 use place_fit::Fit;
 use timeline::ResourceTimeline;
 ghost use mathlib.Core.Path.{_≡_};
-ghost use mathlib.Core.Bool.{true, false, _&&_, cond};
+ghost use mathlib.Core.Bool.{true, false, _&&_};
 ghost use mathlib.Core.Logic.{_⊎_};
-ghost use Prim.Native.Nat.{ℕ, suc, _≤_, _<_};
-ghost use lib.ListN.{length, take};
-ghost use Rattle.calendar.specs.Limits.{lastAsked, longestSpan, never};
-ghost use Rattle.calendar.specs.Search.{nothing, at};
-ghost use Rattle.calendar.specs.Valid as calendar;
-ghost use Rattle.calendar.specs.Work.{workEnd};
-ghost use Rattle.cells.specs.Cells.{before};
-ghost use Rattle.calendar_work.specs.Layout.{Edges, laid};
+ghost use Prim.Native.Nat.{_≤_, _<_};
+ghost use lib.ListN.{length};
+ghost use Rattle.calendar.specs.Limits.{longestSpan, never};
+ghost use Rattle.calendar_work.specs.Layout.{Edges};
 ghost use Rattle.timeline.specs.Valid as timeline;
 ghost use Rattle.timeline.specs.Earliest.{freeOn};
-ghost use Rattle.timeline.specs.Steps.{Still};
+ghost use Rattle.timeline.specs.Steps.{StillUpTo};
 ghost use Rattle.timeline_candidates.specs.Steps.{Event};
-ghost use Rattle.board.specs.Valid.{valid};
 ghost use Rattle.scheduler.specs.Fitting.{sharesOf};
-ghost use Rattle.board.specs.Places.{Known};
-ghost use Rattle.place_fit.specs.Closing.{EntriesOn, closing, fitOf};
+ghost use Rattle.place_entries.specs.Cells.{firstEntries};
+ghost use Rattle.place_fit.specs.Closing.{Fittable, closing, fitOf};
+ghost use Rattle.place_resume.specs.Trials.{EndKept};
 
 // An instant tried: the joint end of the work from it, whether all diaries asked so far are free up to that, and the next instant at
 // which something can first start on one of them; not laid while the joint time is not laid out yet.
@@ -56,7 +52,7 @@ fn untried(x: u64) -> Trial
 // An instant with no diary asked yet; 2^63 has no end.
 fn begun(edges: &[u64], len: usize, x: u64, work: u64) -> Trial
     requires { ⌜ (len ≤ 3201) × (len ≤ length (now edges)) × (work ≤ longestSpan) × Edges (now edges) len ⌝ }
-    ensures { λ r. ⌜ (r .at ≡ x) × (r .next ≡ never) × (r .laid ≡ true) × (x < never → cond (r .free) (at (r .end)) nothing ≡ workEnd (before (now (edges .entry)) len) (laid (now (edges .entry)) len) x work) ⌝ }
+    ensures { λ r. ⌜ (r .at ≡ x) × (r .next ≡ never) × (r .laid ≡ true) × EndKept (now (edges .entry)) len work x (r .free) (r .end) ⌝ }
 {
     let mut t = untried(x);
     t.next = NEVER;
@@ -75,7 +71,7 @@ fn begun(edges: &[u64], len: usize, x: u64, work: u64) -> Trial
 fn asked(d: ResourceTimeline, units: u32, t: Trial) -> Trial
     requires { ⌜ (timeline.valid d ≡ true) × (t .at < t .next) × (t .next ≤ never) ⌝ }
     ensures { λ r. ⌜ (r .at ≡ t .at) × (r .end ≡ t .end) × (r .laid ≡ t .laid) × (r .free ≡ t .free && freeOn d units (t .at) (t .end)) ⌝ }
-    ensures { λ r. ⌜ (t .at < r .next) × (r .next ≤ t .next) × ((y : ℕ) → t .at ≤ y → suc y < r .next → Still d (suc y)) × ((r .next ≡ t .next) ⊎ Event d (r .next)) ⌝ }
+    ensures { λ r. ⌜ (t .at < r .next) × (r .next ≤ t .next) × StillUpTo d (t .at) (r .next) × ((r .next ≡ t .next) ⊎ Event d (r .next)) ⌝ }
 {
     let mut r = t;
     if t.free {
@@ -97,8 +93,8 @@ pub fn fit_resumable(
     work: u64,
     from: u64,
 ) -> Fit
-    requires { ⌜ (valid b ≡ true) × Known b places × (calendar.valid own ≡ true) × EntriesOn b (e .entries) (e .count) × (from ≤ lastAsked) × (work ≤ longestSpan) ⌝ }
-    ensures { λ r. ⌜ fitOf r ≡ closing true (sharesOf b (take (e .count) (e .entries))) own work from ⌝ }
+    requires { ⌜ Fittable b places own e from work ⌝ }
+    ensures { λ r. ⌜ fitOf r ≡ closing true (sharesOf b (firstEntries e)) own work from ⌝ }
 {
     let first = place_fit::own_timeline(own);
     let n = e.count + 1;

@@ -7,6 +7,7 @@ use lib.ListN.{take, replicate}
 use Rattle.calendar.specs.Limits.{lastAsked}
 use Rattle.activity.specs.declared.ResourceRequirement.{ResourceRequirement}
 use Rattle.activity.specs.declared.Activity.{Activity}
+use Rattle.activity.specs.Check.{requirementsOf}
 use Rattle.board.specs.declared.Board.{Board}
 use Rattle.board.specs.Resources.{resourcesOf, resourceAt}
 use Rattle.scheduler.specs.declared.Selection.{Selection}
@@ -17,7 +18,7 @@ use Rattle.cells.specs.Every.{Each}
 use Rattle.scheduler.specs.Instants.{above, points}
 use Rattle.place_plans.specs.declared.Plan.{Plan}
 use Rattle.place_plans.specs.Plans.{Planned}
-use Rattle.place_rounds.specs.Tables.{foundAt, requirementAt}
+use Rattle.place_rounds.specs.Tables.{foundAt, requirementAt, Answered}
 use Rattle.place_rounds.specs.declared.rank.Candidate.{Candidate}
 use Rattle.place_rounds.specs.declared.rank.Ranked.{Ranked}
 use Rattle.place_rounds.specs.Named.{rankedOf}
@@ -44,6 +45,11 @@ pub record SortedFor (b : Board) (a : Activity) (ready t j : ℕ) (k : Ranked) :
   pub so : rankedOf b k ≡ scheduler.sort (scheduler.candidates b a ready (requirementAt a j) t (resourcesOf b))
   pub fair : Each (Fair b) (take (k .count) (k .candidates))
 
+-- those of any board and order that have answered so
+abbrev pub CandidatesFor : List Plan → List ℕ → ℕ → ℕ → Ranked → Type 0
+CandidatesFor plans starts len j k =
+    (b : Board) (a : Activity) (ready t : ℕ) → Answered b a ready t len plans starts → j < a .len → SortedFor b a ready t j k
+
 -- so does one held, and at least a unit is wanted of it
 pub record Lasting (b : Board) (h : Selection) : Type 0 where
   pub stands : h .place < b .len
@@ -53,6 +59,12 @@ pub record Lasting (b : Board) (h : Selection) : Type 0 where
 -- the round that the code answers
 unfoldable pub roundOf : Board → Selections → scheduler.Round
 roundOf b h = cond (h .enough) (scheduler.holds (heldTo b (h .held) (h .count))) scheduler.tooFew
+
+-- it is the round at t on any board that has answered so from t on, and each held stands on that board
+abbrev pub RoundFor : List Plan → List ℕ → ℕ → Activity → Selections → Type 0
+RoundFor plans starts len a h =
+    (b : Board) (ready t : ℕ) → Answered b a ready t len plans starts
+    → (roundOf b h ≡ scheduler.round b a ready t (requirementsOf a)) × Each (Lasting b) (take (h .count) (h .held))
 
 -- no choice
 abbrev pub noChoice : List Plan → Choice
@@ -84,3 +96,9 @@ pub record Settled (b : Board) (a : Activity) (ready : ℕ) (x : Rounds) : Type 
   pub goes : x .done ≡ false → (x .instant ≤ lastAsked) × Led b a ready (x .instant)
   pub soon : x .choice .instant ≤ lastAsked
   pub chosen : x .choice .chosen ≡ true → Chosen b a ready (x .choice)
+
+-- the rounds so far with the one at t, on any board that has answered so and has led to t; not done, they leave fewer instants
+abbrev pub RoundMore : List Plan → List ℕ → ℕ → Activity → ℕ → Rounds → Type 0
+RoundMore plans starts len a t x =
+    (b : Board) (ready : ℕ) → Answered b a ready t len plans starts → Led b a ready t
+    → Settled b a ready x × (x .done ≡ false → Fewer b a ready t (x .instant))

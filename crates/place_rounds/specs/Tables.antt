@@ -41,7 +41,8 @@ toAsk place len asked start t = ltb place len && (ltb t asked || ltb start t)
 pub record Remembered (b : Board) (a : Activity) (ready : ℕ) (asked starts : List ℕ) : Type 0 where
   pub asked-long : length asked ≡ 64
   pub starts-long : length starts ≡ 64
-  pub so : (j i t : ℕ) → j < a .len → i < b .len → getD asked (16 * j + i) 0 ≤ t → t ≤ getD starts (16 * j + i) 0 → getD starts (16 * j + i) 0 ≡ startFor b a ready t j i
+  pub so : (j i t : ℕ) → j < a .len → i < b .len → getD asked (16 * j + i) 0 ≤ t → t ≤ getD starts (16 * j + i) 0
+      → getD starts (16 * j + i) 0 ≡ startFor b a ready t j i
 
 -- an order that is not refused, on a board that keeps the rules: its plans, and all that is answered from t on
 pub record Answered (b : Board) (a : Activity) (ready t len : ℕ) (plans : List Plan) (starts : List ℕ) : Type 0 where

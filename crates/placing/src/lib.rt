@@ -6,10 +6,11 @@ use place_fit::Fit;
 ghost use mathlib.Core.Path.{_≡_};
 ghost use mathlib.Core.List.{_++_, map};
 ghost use Prim.Native.Nat.{_≤_};
-ghost use lib.ListN.{length, take, drop};
+ghost use lib.ListN.{length, drop};
 ghost use Rattle.board.specs.declared.Board as declared;
 ghost use Rattle.board.specs.Valid.{valid};
 ghost use Rattle.scheduler.specs.Placing.{rowOf, slateAfter, placeRefusal, placeReply};
+ghost use Rattle.place_entries.specs.Cells.{firstEntries};
 ghost use Rattle.placing.specs.Told.{told};
 
 // What placing answers: choosing instant, start, end and how many entries; 'chosen, none' with the choosing instant; none; a refusal.
@@ -23,7 +24,7 @@ pub enum Placement {
 // Writes the entries at the front of the slate.
 fn write(slate: &mut [[u64; 4]], e: Entries)
     requires { ⌜ (e .count ≤ 24) × (24 ≤ length (now slate)) ⌝ }
-    ensures { λ _. ⌜ now (slate .exit) ≡ map rowOf (take (e .count) (e .entries)) ++ drop (e .count) (now (slate .entry)) ⌝ }
+    ensures { λ _. ⌜ now (slate .exit) ≡ map rowOf (firstEntries e) ++ drop (e .count) (now (slate .entry)) ⌝ }
 {
     let n = e.count;
     let mut i: usize = 0;

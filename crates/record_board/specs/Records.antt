@@ -31,7 +31,10 @@ refusalOf (line none) = 0
 refusalOf (line (refused n)) = n
 
 unfoldable pub diaryTold : Desk → Done → DeskStepped
-diaryTold d r = record { desk = record { timeline = r .timeline; activity = d .activity; board = d .board }; refusal = refusalOf (r .prints) }
+diaryTold d r = record {
+  desk = record { timeline = r .timeline; activity = d .activity; board = d .board };
+  refusal = refusalOf (r .prints);
+}
 
 -- as in `slot`, on the diary in hand
 unfoldable pub diaryDoes : Desk → ℕ → List ℕ → ℕ → DeskStepped
@@ -40,7 +43,8 @@ diaryDoes d kind bs i = diaryTold d (recordDoes (d .timeline) kind bs i)
 -- accepted, the diary in hand is empty again
 unfoldable pub added : Desk → Entered → DeskStepped
 added d e =
-    cond (eqb (e .refusal) 0) (record { desk = record { timeline = newDiary (pos 1); activity = d .activity; board = e .board }; refusal = 0 })
+    cond (eqb (e .refusal) 0)
+    (record { desk = record { timeline = newDiary (pos 1); activity = d .activity; board = e .board }; refusal = 0 })
     (record { desk = d; refusal = e .refusal })
 
 -- number (1), type (1), skills (8), count (1), then that many companions (1 each)

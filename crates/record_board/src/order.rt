@@ -16,7 +16,8 @@ ghost use Prim.Native.Nat.{_+_, _≤_};
 ghost use lib.ListN.{length};
 ghost use lib.Ieee.{binary64, ofBits};
 ghost use Rattle.record_bodies.specs.Bodies.{fixedLen};
-ghost use Rattle.record_board.specs.Orders.{durationAt, releaseOf, withRequirement, requirementAt, timingAt, partReply, flagAbove, orderBy, orderDoes};
+ghost use Rattle.record_board.specs.Orders.{durationAt, releaseOf, withRequirement, requirementAt, timingAt};
+ghost use Rattle.record_board.specs.Orders.{partReply, flagAbove, orderBy, orderDoes};
 
 // What a part of an order answers: the refusal's number, 0 for none, and the order, new or unchanged.
 pub struct Ordered {

@@ -1,6 +1,7 @@
 -- What a record does in `offer` (docs/RECORDS.md): kinds 1 to 4 and 16 to 24 as elsewhere, 25 places the order in hand on the slate, 26
 -- commits entries of the slate.
-use Prim.Native.Nat.{ℕ, _+_, _-_}
+use mathlib.Core.Path.{_≡_}
+use Prim.Native.Nat.{ℕ, _+_, _-_, _≤_}
 use mathlib.Core.Bool.{true, false, not, cond}
 use mathlib.Core.List.{List}
 use lib.ListN.{length}
@@ -81,3 +82,7 @@ shown (answer.Chosen t) = 0
 shown answer.None = 0
 shown answer.Committed = 0
 shown (answer.Refused n) = 0
+
+-- the slate after the record that begins at index i, and all entries that its answer speaks of stand on it
+abbrev pub SlateTurned : Desk → List (List ℕ) → List ℕ → ℕ → ℕ → List (List ℕ) → OfferAnswer → Type 0
+SlateTurned d slate bs i n after a = (after ≡ slateReply d slate bs i n) × (shown a ≤ length after)

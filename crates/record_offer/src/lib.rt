@@ -10,7 +10,8 @@ ghost use mathlib.Core.Path.{_≡_};
 ghost use Prim.Native.Nat.{_+_, _≤_};
 ghost use lib.ListN.{length};
 ghost use Rattle.scheduler.specs.Placing.{slateAfter};
-ghost use Rattle.record_offer.specs.Offers.{offerLen, answerOf, placing as placingOf, placedAnswer, commitDoes, told as toldOf, ends, shown, turnReply, slateReply};
+ghost use Rattle.record_offer.specs.Offers.{offerLen, answerOf, placing as placingOf, placedAnswer, commitDoes};
+ghost use Rattle.record_offer.specs.Offers.{told as toldOf, ends, turnReply, SlateTurned};
 
 // What a record answers; `Nothing` prints nothing. A placement: choosing instant, start, end, and how many entries stand on the slate.
 pub enum OfferAnswer {
@@ -130,7 +131,7 @@ fn told(s: DeskStepped, answer: OfferAnswer, at: usize) -> OfferTurn
 pub fn record(desk: Desk, slate: &mut [[u64; 4]], bytes: &[u8], at: usize, len: usize) -> OfferTurn
     requires { ⌜ (at ≤ len) × (len ≤ length (now bytes)) ⌝ }
     ensures { λ r. ⌜ (r ≡ turnReply desk (now (slate .entry)) (now (bytes .entry)) at len) × (r .at ≤ len) ⌝ }
-    ensures { λ r. ⌜ (now (slate .exit) ≡ slateReply desk (now (slate .entry)) (now (bytes .entry)) at len) × (shown (r .answer) ≤ length (now (slate .exit))) ⌝ }
+    ensures { λ r. ⌜ SlateTurned desk (now (slate .entry)) (now (bytes .entry)) at len (now (slate .exit)) (r .answer) ⌝ }
 {
     if at == len {
         return last(desk, OfferAnswer::Nothing, at);

@@ -55,7 +55,8 @@ servesReply b q number =
 
 abbrev pub heldAt : List ℕ → ℕ → List ℕ
 heldAt bs i =
-    byte bs i ∷ byte bs (i + 1) ∷ byte bs (i + 2) ∷ byte bs (i + 3) ∷ byte bs (i + 4) ∷ byte bs (i + 5) ∷ byte bs (i + 6) ∷ byte bs (i + 7) ∷ []
+    byte bs i ∷ byte bs (i + 1) ∷ byte bs (i + 2) ∷ byte bs (i + 3)
+    ∷ byte bs (i + 4) ∷ byte bs (i + 5) ∷ byte bs (i + 6) ∷ byte bs (i + 7) ∷ []
 
 -- 40 count, eight numbers (1 each); 41 number, last, category (1 each), own setup (8); 42 come from (2), to (1); 43 type (1), candidates
 -- (2), skills (8), number (1). 0 for another kind

@@ -17,7 +17,8 @@ ghost use Prim.Native.Nat.{_+_, _≤_, _<_};
 ghost use lib.ListN.{length};
 ghost use Rattle.activity.specs.Check.{replyOf};
 ghost use Rattle.board.specs.Valid.{lastRight};
-ghost use Rattle.record_queries.specs.Asks.{heldAt, lastOf, durationLine, setupReply, transportReply, servesReply, askLen, askReply, told as toldOf, ends, runLen, turnReply};
+ghost use Rattle.record_queries.specs.Asks.{heldAt, lastOf, durationLine, setupReply, transportReply, servesReply};
+ghost use Rattle.record_queries.specs.Asks.{askLen, askReply, told as toldOf, ends, runLen, turnReply};
 
 // What a record answers; `Nothing` prints nothing.
 pub enum QueryAnswer {

@@ -29,7 +29,12 @@ unfoldable pub durationTogether : Activity → List Held → ActivityDuration
 durationTogether a hs = durationOn (a .duration) (a .timings) (numbersOf hs)
 
 abbrev pub heldEntry : ℕ → ℕ → Held → Entry
-heldEntry category setup h = record { number = h .resource .number; setup = setupOn (h .resource) category setup; units = h .usage; companion = false }
+heldEntry category setup h = record {
+  number = h .resource .number;
+  setup = setupOn (h .resource) category setup;
+  units = h .usage;
+  companion = false;
+}
 
 abbrev pub heldEntries : ℕ → ℕ → List Held → List Entry
 heldEntries category setup hs = map (heldEntry category setup) hs

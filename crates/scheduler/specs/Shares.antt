@@ -11,7 +11,9 @@ use Rattle.timeline.specs.Diary.{diary}
 
 -- the least start on one share, unbroken or resumable
 unfoldable pub startOn : Bool → ℕ → Share → ℕ → Found
-startOn resumable span x t = cond resumable (earliestResumable (x .timeline) t span (x .units)) (earliestFit (x .timeline) t span (x .units))
+startOn resumable span x t =
+    cond resumable (earliestResumable (x .timeline) t span (x .units))
+    (earliestFit (x .timeline) t span (x .units))
 
 -- what is read past the end of a list
 abbrev pub noShare : Share

@@ -47,4 +47,6 @@ withCalendar t c = record {
 
 -- a window or a block on the diary's calendar
 unfoldable pub calendarReply : ResourceTimeline → Added → Booked
-calendarReply t a = cond (not (valid t)) (record { refusal = 15; timeline = t }) (record { refusal = a .refusal; timeline = withCalendar t (a .calendar) })
+calendarReply t a =
+    cond (not (valid t)) (record { refusal = 15; timeline = t })
+    (record { refusal = a .refusal; timeline = withCalendar t (a .calendar) })

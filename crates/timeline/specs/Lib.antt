@@ -1,4 +1,5 @@
--- Document 01, 'Diary' and the replies of 'Booking' and 'Asking a diary', in its order; then what the searches of the crates above stand on.
+-- Document 01, 'Diary' and the replies of 'Booking' and 'Asking a diary', in its order; then what the searches of the
+-- crates above stand on.
 pub mod Bookings
 pub mod Diary
 pub mod Valid

@@ -1,5 +1,5 @@
--- 01, 'Diary': when a diary keeps the rules: its calendar's, its length, each booking's range, the order by start, the running latest ends, the
--- booked total, and 0 in every cell past the length.
+-- 01, 'Diary': when a diary keeps the rules: its calendar's, its length, each booking's range, the order by start, the running latest ends,
+-- the booked total, and 0 in every cell past the length.
 use Prim.Native.Nat.{ℕ, _-_, _^_, max}
 use mathlib.Core.Bool.{Bool, _&&_}
 use lib.ListN.{getD}

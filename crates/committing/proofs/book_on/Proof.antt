@@ -17,7 +17,7 @@ returns c =
     let a = c .before .before .before .before .before .before .before .args in
     let p = c .before .before .before .before .before .before .before .pre in
     let t = c .before .before .before .before .before .book .result .timeline in
-    let e : t ≡ withBooking (a .r .timeline) (a .start) (a .end) (a .units) = ap (λ (x : Booked). x .timeline) (c .before .before .before .before .before .book .ensures .0) ∙ book-taken (a .r .timeline) (a .start) (a .end) (a .category) (a .units) (p .0) (p .1) (p .2) (p .3) (p .4) in
+    let e : t ≡ withBooking (a .r .timeline) (a .start) (a .end) (a .units) = ap (λ (x : Booked). x .timeline) (c .before .before .before .before .before .book .ensures .0) ∙ book-taken (a .r .timeline) (a .start) (a .end) (a .category) (a .units) (p .0) (p .1) (p .2) (p .3 .0) (p .3 .1) in
     let m : Line = record { number = a .r .number; units = a .units; companion = a .companion } in
     booked-category (a .r) t (a .start) (a .end) (a .category) m e (c .before .if1 .taken) (not-true (a .companion) (c .if2 .taken))
 
@@ -26,7 +26,7 @@ returns-2 c =
     let a = c .before .before .before .before .before .before .before .args in
     let p = c .before .before .before .before .before .before .before .pre in
     let t = c .before .before .before .before .before .book .result .timeline in
-    let e : t ≡ withBooking (a .r .timeline) (a .start) (a .end) (a .units) = ap (λ (x : Booked). x .timeline) (c .before .before .before .before .before .book .ensures .0) ∙ book-taken (a .r .timeline) (a .start) (a .end) (a .category) (a .units) (p .0) (p .1) (p .2) (p .3) (p .4) in
+    let e : t ≡ withBooking (a .r .timeline) (a .start) (a .end) (a .units) = ap (λ (x : Booked). x .timeline) (c .before .before .before .before .before .book .ensures .0) ∙ book-taken (a .r .timeline) (a .start) (a .end) (a .category) (a .units) (p .0) (p .1) (p .2) (p .3 .0) (p .3 .1) in
     let m : Line = record { number = a .r .number; units = a .units; companion = a .companion } in
     booked-companion (a .r) t (a .start) (a .end) (a .category) m e (not-false (a .companion) (c .if2 .left)) (c .before .if1 .taken)
 
@@ -35,7 +35,7 @@ returns-3 c =
     let a = c .before .before .before .before .before .before .args in
     let p = c .before .before .before .before .before .before .pre in
     let t = c .before .before .before .before .book .result .timeline in
-    let e : t ≡ withBooking (a .r .timeline) (a .start) (a .end) (a .units) = ap (λ (x : Booked). x .timeline) (c .before .before .before .before .book .ensures .0) ∙ book-taken (a .r .timeline) (a .start) (a .end) (a .category) (a .units) (p .0) (p .1) (p .2) (p .3) (p .4) in
+    let e : t ≡ withBooking (a .r .timeline) (a .start) (a .end) (a .units) = ap (λ (x : Booked). x .timeline) (c .before .before .before .before .book .ensures .0) ∙ book-taken (a .r .timeline) (a .start) (a .end) (a .category) (a .units) (p .0) (p .1) (p .2) (p .3 .0) (p .3 .1) in
     let m : Line = record { number = a .r .number; units = a .units; companion = a .companion } in
     booked-plain (a .r) t (a .start) (a .end) (a .category) m e (c .if1 .left)
 

@@ -80,7 +80,7 @@ book-on-requires c κs =
     let h = here (c .before .before) in
     let v = c .before .before .before .loop .inv in
     let l = c .before .before .loop-test .taken in
-    (h .kept, h .free, v .2 (omega (arith, l)), h .some, h .few)
+    (h .kept, h .free, v .2 (omega (arith, l)), (h .some, h .few))
 
 mul-x : tie.Need-mul-x Inv-loop μ-loop
 mul-x c = let h = here (c .before .before .before) in omega (arith, h .place-low, h .low)

@@ -60,7 +60,7 @@ insert-requires : tie.Need-insert-requires
 insert-requires c κs =
     let a = c .before .before .args in
     let b = bookable (a .self) (a .start) (a .end) (a .units) (sym (c .before .book-refusal .ensures) ∙ omega arith) in
-    (b .keeps, (b .room, b .order, b .range, b .some, b .few))
+    (b .keeps, (b .room, b .order, b .range, (b .some, b .few)))
 
 returns-2 : tie.Need-returns-2
 unfolding bookReply

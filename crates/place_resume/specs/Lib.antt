@@ -1,0 +1,2 @@
+-- What is kept of an instant that is tried.
+pub mod Trials
