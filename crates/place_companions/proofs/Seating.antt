@@ -21,8 +21,8 @@ use Rattle.board.specs.Theorems.Meaning.{resource-of}
 use Rattle.scheduler.specs.Alone.{Share, oneUnit, resourceIn, companionsOf, withCompanions}
 use Rattle.cells.specs.Laws.Every.{every-next, every-off}
 use Rattle.scheduler.specs.Shares.{noShare}
-use Rattle.board.specs.Places.{Known}
-use Rattle.place_companions.specs.Seats.{placeIn, placed, seatOf}
+use Rattle.board.specs.Places.{Known, hasPlace}
+use Rattle.place_companions.specs.Seats.{placeIn, seatOf}
 use Rattle.board.specs.Laws.Knowing.{number-place}
 
 -- one put behind a list is another cell
@@ -38,7 +38,7 @@ shareAt b place units = record { timeline = resourceAt b place .timeline; units 
 
 -- the first j companions have their places
 pub record Sits (own : ℕ) (cs places : List ℕ) (i seat j : ℕ) : Type 0 where
-  pub all : every (placed places) (take j cs) ≡ true
+  pub all : every (hasPlace places) (take j cs) ≡ true
   pub here : seat ≡ getD (own ∷ map (placeIn places) (take j cs)) i own
 
 pub sits-none : (own : ℕ) (cs places : List ℕ) (i : ℕ) → Sits own cs places i own 0
@@ -63,8 +63,8 @@ module _ (own : ℕ) (cs places : List ℕ) (i seat j : ℕ) (l : j < length cs)
   long = omega (arith, length-map (take j cs) (placeIn places), length-take-le j cs (omega arith))
 
   module _ (p : place < 16) where
-    next : every (placed places) (take (j + 1) cs) ≡ true
-    next = every-next (placed places) 0 cs j l (s .all) (lt-ltb _ _ p)
+    next : every (hasPlace places) (take (j + 1) cs) ≡ true
+    next = every-next (hasPlace places) 0 cs j l (s .all) (lt-ltb _ _ p)
 
     -- the next is the one wanted, or another
     pub sits-here : j + 1 ≡ i → Sits own cs places i place (j + 1)
@@ -76,7 +76,7 @@ module _ (own : ℕ) (cs places : List ℕ) (i seat j : ℕ) (l : j < length cs)
   -- or has no place
   pub sits-off : (n : ℕ) → j < n → n ≤ length cs → 16 ≤ place → 16 ≡ seatOf own (take n cs) places i
   unfolding seatOf
-  sits-off n m o p = rw (every-off (placed places) 0 cs j n m o (le-ltb _ _ p)) refl
+  sits-off n m o p = rw (every-off (hasPlace places) 0 cs j n m o (le-ltb _ _ p)) refl
 
 pub sits-all : (own : ℕ) (cs places : List ℕ) (i seat n : ℕ) → Sits own cs places i seat n → seat ≡ seatOf own (take n cs) places i
 unfolding seatOf
@@ -84,10 +84,10 @@ sits-all own cs places i seat n s = rw (s .all) (s .here)
 
 module _ (b : Board) (v : valid b ≡ true) (places : List ℕ) (known : Known b places) where
   -- a number has a place where it is on the board
-  placed-is : (n : ℕ) → n ≤ 15 → placed places n ≡ onBoard b n
+  placed-is : (n : ℕ) → n ≤ 15 → hasPlace places n ≡ onBoard b n
   placed-is n l = ap (λ (p : ℕ). ltb p 16) (known n (omega arith)) ∙ place-on b (b .len) n (rules b v .few)
 
-  every-placed : (cs : List ℕ) → ((k : ℕ) → k < length cs → getD cs k 0 ≤ 15) → every (placed places) cs ≡ every (onBoard b) cs
+  every-placed : (cs : List ℕ) → ((k : ℕ) → k < length cs → getD cs k 0 ≤ 15) → every (hasPlace places) cs ≡ every (onBoard b) cs
   unfolding every
   every-placed [] small = refl
   every-placed (c ∷ cs) small = rw (placed-is c (small 0 (omega arith)), every-placed cs (λ k l. small (suc k) (omega arith))) refl

@@ -23,7 +23,7 @@ use Rattle.cells.specs.Laws.Each.{each-all, each-append, each-in-map}
 use Rattle.cells.specs.Laws.Arrays.{each-at, each-cells}
 use Rattle.scheduler.specs.Plain.{Chooses, enough, heldAt}
 use Rattle.scheduler.specs.Theorems.Meaning.{choosing-means}
-use Rattle.scheduler.specs.Laws.Closing.{some-of-each}
+use Rattle.activity.specs.Laws.Judging.{some-of-each}
 use Rattle.scheduler.specs.Laws.Reported.{held-at-whole, entries-on}
 use Rattle.place_entries.specs.Cells.{noEntry}
 use Rattle.place_fit.specs.Closing.{EntriesOn}

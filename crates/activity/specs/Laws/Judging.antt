@@ -1,7 +1,7 @@
 -- The refusals of an order one by one, and what an order that is not refused keeps.
-use mathlib.Core.Path.{_≡_, refl, sym}
+use mathlib.Core.Path.{_≡_, refl, sym, subst}
 use mathlib.Core.Bool.{Bool, true, false, not, _&&_, _||_, cond, and-false}
-use mathlib.Core.List.{List}
+use mathlib.Core.List.{List, _∷_}
 use Prim.Native.Nat.{ℕ, _^_, _≤_, _<_}
 use native.Mathlib.Omega.{arith}
 use lib.Dec.{leb, ltb}
@@ -188,3 +188,7 @@ accepted-is a ready c =
     let r = times-right a ready (c .ready-range) (c .release-range) (short-is (a .duration) (c .lawful .base-short)) t in
     let n = and-join (every quantityRight (requirementsOf a)) (leb (quantity (requirementsOf a)) 8) q (le-leb (quantity (requirementsOf a)) 8 (c .total-range)) in
     sym (not-refused a ready (c .category-range) r (c .few) n u s)
+
+-- an order that is not refused asks for at least one of each
+pub some-of-each : (a : Activity) (ready : ℕ) (q : ResourceRequirement) (qs : List ResourceRequirement) → requirementsOf a ≡ q ∷ qs → activityRefusal a ready ≡ 0 → 1 ≤ q .quantity
+some-of-each a ready q qs asks h = subst (λ (rs : List ResourceRequirement). 0 < length rs → 1 ≤ getD rs 0 noRequirement .quantity) asks (accepted a ready h .some 0) (omega arith)

@@ -20,7 +20,7 @@ use Rattle.scheduler.specs.Placing.{Reply, placed, chosenNone, none, ref
 use Rattle.scheduler.specs.Plain.{enough, heldAt, Chooses}
 use Rattle.cells.specs.Every.{Each, each-end, Pairs}
 use Rattle.scheduler.specs.Theorems.Meaning.{choosing-means}
-use Rattle.scheduler.specs.Laws.Closing.{some-of-each}
+use Rattle.activity.specs.Laws.Judging.{some-of-each}
 use Rattle.scheduler.specs.Alike.{Alike, NoExtra}
 use Rattle.scheduler.specs.Laws.AlikeResources.{Clean}
 use Rattle.scheduler.specs.Laws.AlikeHeld.{TwinHeld, enough-less, held-same, entries-same, clean-held-all, fitted-same}

@@ -1,11 +1,10 @@
 -- The closing fit finds the least start that suits all, without any bound; a start that suits all has an end.
-use mathlib.Core.Path.{_≡_, refl, sym, ap, _∙_, subst}
+use mathlib.Core.Path.{_≡_, refl, sym, ap, _∙_}
 use mathlib.Core.Bool.{Bool, true, false}
 use mathlib.Core.List.{List, [], _∷_}
 use mathlib.Core.Logic.{inl}
-use Prim.Native.Nat.{ℕ, _+_, _≤_, _<_, suc}
+use Prim.Native.Nat.{ℕ, _+_, _≤_, suc}
 use native.Mathlib.Omega.{arith}
-use lib.ListN.{length, getD}
 use Rattle.cells.specs.Laws.Basics.{not-both}
 use Rattle.calendar.specs.Search.{Found, nothing, at, Answers}
 use Rattle.calendar.specs.Valid as calendar
@@ -13,11 +12,8 @@ use Rattle.calendar.specs.Work.{jointEnd}
 use Rattle.calendar.specs.Theorems.Meaning.{fits-is}
 use Rattle.calendar.specs.Laws.Searching.{least-is, least-answers}
 use Rattle.timeline.specs.Theorems.Meaning.{straight}
-use Rattle.activity.specs.declared.ResourceRequirement.{ResourceRequirement}
 use Rattle.activity.specs.declared.Activity.{Activity}
 use Rattle.cells.specs.Every.{every, each-on}
-use Rattle.activity.specs.Laws.Judging.{accepted}
-use Rattle.activity.specs.Check.{noRequirement, requirementsOf, quantity, activityRefusal}
 use Rattle.scheduler.specs.Alone.{Share, allStart}
 use Rattle.scheduler.specs.Fitting.{fitsAll, allFree, calendarsOf, freeToEnd, startsAll, suits, fitting, endOf, lastAll}
 use Rattle.scheduler.specs.Placing.{placed, ended, started}
@@ -26,9 +22,15 @@ use Rattle.calendar.specs.declared.Calendar.{Calendar}
 use Rattle.scheduler.specs.Shares.{ownShare}
 use Rattle.scheduler.specs.Laws.Owning.{own-valid, own-last, suits-on, suits-on-back}
 
--- an order that is not refused asks for at least one of each
-pub some-of-each : (a : Activity) (ready : ℕ) (q : ResourceRequirement) (qs : List ResourceRequirement) → requirementsOf a ≡ q ∷ qs → activityRefusal a ready ≡ 0 → 1 ≤ q .quantity
-some-of-each a ready q qs asks h = subst (λ (rs : List ResourceRequirement). 0 < length rs → 1 ≤ getD rs 0 noRequirement .quantity) asks (accepted a ready h .some 0) (omega arith)
+-- the least start that suits all entries and the order's own calendar, or that none does
+pub fitting-answers : (resumable : Bool) (xs : List Share) (own : Calendar) (span from : ℕ) → Sound xs → calendar.valid own ≡ true → Answers (suits resumable xs own span) from (fitting resumable xs own span from)
+unfolding fitting
+fitting-answers resumable xs own span from v w = least-answers (suits resumable xs own span) from (lastAll xs own) back
+  where
+    back : (y : ℕ) → lastAll xs own ≤ y → suits resumable xs own span (suc y) ≡ true → suits resumable xs own span y ≡ true
+    back y l h =
+        let calm = last-calm (ownShare own ∷ xs) (each-on (own-valid own w) v) y (omega (arith, own-last own xs)) in
+        suits-on resumable xs own span y ∙ suits-on-back resumable (ownShare own ∷ xs) span y calm (sym (suits-on resumable xs own span (suc y)) ∙ h)
 
 -- a start that suits all has an end
 pub has-end : (resumable : Bool) (xs : List Share) (a : Activity) (span s : ℕ) → suits resumable xs (a .calendar) span s ≡ true → (e : ℕ) × (endOf resumable xs (a .calendar) span s ≡ at e)
@@ -60,13 +62,3 @@ module _ (a : Activity) (open-ever : a .calendar .windows .len ≡ 0) (never-shu
   plainly resumable =
       ap (started resumable [] a span ready []) (least-is (suits resumable [] (a .calendar) span) ready _ ready (record { low = omega arith; holds = at-once resumable; first = λ x l m. absurd (omega arith) }) (omega arith))
       ∙ ap (ended ready ready []) (ends-then resumable)
-
--- the least start that suits all entries and the order's own calendar, or that none does
-pub fitting-answers : (resumable : Bool) (xs : List Share) (own : Calendar) (span from : ℕ) → Sound xs → calendar.valid own ≡ true → Answers (suits resumable xs own span) from (fitting resumable xs own span from)
-unfolding fitting
-fitting-answers resumable xs own span from v w = least-answers (suits resumable xs own span) from (lastAll xs own) back
-  where
-    back : (y : ℕ) → lastAll xs own ≤ y → suits resumable xs own span (suc y) ≡ true → suits resumable xs own span y ≡ true
-    back y l h =
-        let calm = last-calm (ownShare own ∷ xs) (each-on (own-valid own w) v) y (omega (arith, own-last own xs)) in
-        suits-on resumable xs own span y ∙ suits-on-back resumable (ownShare own ∷ xs) span y calm (sym (suits-on resumable xs own span (suc y)) ∙ h)

@@ -43,7 +43,7 @@ pub latest-wider : (P : ℕ → Bool) (l m : List ℕ) (t : ℕ) (f : Found) →
 latest-wider P l m t nothing f w = w
 latest-wider P l m t (at u) f w = record { low = w .low; none = w .none; here = w .here; listed = ⊎-elim (λ (e : u ≡ t). inl e) (λ (e : among u l ≡ true). inr (f u e)) (w .listed) }
 
--- Choosing: any number of rounds above 2,064 gives the choice.
+-- two choices by one rule are the same
 pub choices-same : (P : ℕ → Bool) (H : ℕ → List Held) (ready : ℕ) (f g : Choice) → Chooses P H ready f → Chooses P H ready g → f ≡ g
 choices-same P H ready noChoice noChoice v w = refl
 choices-same P H ready noChoice (chosen t hs) v w = absurd (not-both (P t) (w .0 .holds) (v t (w .0 .low)))

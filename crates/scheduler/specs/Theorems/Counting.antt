@@ -37,6 +37,7 @@ use Rattle.scheduler.specs.Shares.{ownShare}
 use Rattle.scheduler.specs.Laws.Owning.{own-valid, suitsOn, suits-on}
 use Rattle.scheduler.specs.Laws.Counting.{steps-mean, latest-wider, choices-same}
 
+-- Choosing: any number of rounds above 2,064 gives the choice.
 pub choosing-rounds : (b : Board) → board.valid b ≡ true → (a : Activity) (ready : ℕ) (q : ResourceRequirement) (qs : List ResourceRequirement) → requirementsOf a ≡ q ∷ qs → 1 ≤ q .quantity
     → (n : ℕ) → 2064 < n → rounds n b a ready ready ≡ choosing b a ready
 unfolding choosing

@@ -26,7 +26,8 @@ use Rattle.scheduler.specs.Laws.Events.{above-length}
 use Rattle.scheduler.specs.Laws.Chosen.{rounds-mean}
 use Rattle.scheduler.specs.Laws.Ruled.{all-kept, all-listed, points-length}
 use Rattle.scheduler.specs.Instants.{points}
-use Rattle.scheduler.specs.Laws.Closing.{fitting-answers, some-of-each, has-end, plainly}
+use Rattle.scheduler.specs.Laws.Closing.{fitting-answers, has-end, plainly}
+use Rattle.activity.specs.Laws.Judging.{some-of-each}
 use Rattle.scheduler.specs.Laws.Reported.{held-at-whole, entries-sound}
 
 -- The choice on a board that keeps the rules: the choosing instant is the least instant from ready on at which every requirement has its
