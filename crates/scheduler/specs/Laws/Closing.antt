@@ -31,7 +31,8 @@ pub some-of-each : (a : Activity) (ready : ℕ) (q : ResourceRequirement) (qs : 
 some-of-each a ready q qs asks h = subst (λ (rs : List ResourceRequirement). 0 < length rs → 1 ≤ getD rs 0 noRequirement .quantity) asks (accepted a ready h .some 0) (omega arith)
 
 -- a start that suits all has an end
-pub has-end : (resumable : Bool) (xs : List Share) (a : Activity) (span s : ℕ) → suits resumable xs (a .calendar) span s ≡ true → (e : ℕ) × (endOf resumable xs (a .calendar) span s ≡ at e)
+pub has-end : (resumable : Bool) (xs : List Share) (a : Activity) (span s : ℕ) → suits resumable xs (a .calendar) span s ≡ true
+    → (e : ℕ) × (endOf resumable xs (a .calendar) span s ≡ at e)
 unfolding suits endOf startsAll freeToEnd
 has-end true xs a span s h = go (jointEnd (calendarsOf xs (a .calendar)) s span) h
   where
@@ -62,7 +63,8 @@ module _ (a : Activity) (open-ever : a .calendar .windows .len ≡ 0) (never-shu
       ∙ ap (ended ready ready []) (ends-then resumable)
 
 -- the least start that suits all entries and the order's own calendar, or that none does
-pub fitting-answers : (resumable : Bool) (xs : List Share) (own : Calendar) (span from : ℕ) → Sound xs → calendar.valid own ≡ true → Answers (suits resumable xs own span) from (fitting resumable xs own span from)
+pub fitting-answers : (resumable : Bool) (xs : List Share) (own : Calendar) (span from : ℕ) → Sound xs → calendar.valid own ≡ true
+    → Answers (suits resumable xs own span) from (fitting resumable xs own span from)
 unfolding fitting
 fitting-answers resumable xs own span from v w = least-answers (suits resumable xs own span) from (lastAll xs own) back
   where
