@@ -24,7 +24,7 @@ Known b places = (n : ℕ) → n < 16 → getD places n 0 ≡ placeOf (lookup b 
 abbrev pub Lengths : Board → List ℕ → Type 0
 Lengths b lens = (i : ℕ) → i < b .len → getD lens i 0 ≡ resourceAt b i .timeline .len
 
--- and that no diary has more than 64
+-- no diary has more than 64 bookings
 abbrev pub FewBookings : List ℕ → Type 0
 FewBookings lens = (i : ℕ) → i < 16 → getD lens i 0 ≤ 64
 

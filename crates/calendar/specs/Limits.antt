@@ -16,6 +16,7 @@ mostBookings = 64
 abbrev pub mostUnits : ℕ
 mostUnits = 10000
 
+-- units that may be booked
 abbrev pub UnitsInRange : ℕ → Type 0
 UnitsInRange units = (1 ≤ units) × (units ≤ mostUnits)
 

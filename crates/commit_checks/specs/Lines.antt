@@ -27,12 +27,13 @@ roomy places lens tally row = leb (getD lens (getD places (lineOf row .number) 0
 abbrev pub Counted : List (List ℕ) → ℕ → List ℕ → Type 0
 Counted slate n tally = (k : ℕ) → k < 16 → getD tally k 0 ≡ entriesOn k (linesOf n slate)
 
--- r refuses some rows, on any board with these places and as many bookings in its diaries
+-- r is the refusal of some rows, 0 for none, on any board with these places and as many bookings in its diaries
 abbrev pub RowsRefusal : List ℕ → List ℕ → List Line → ℕ → ℕ → ℕ → ℕ → Type 0
 RowsRefusal places lens ls start end category r =
     (b : Board) → valid b ≡ true → Known b places → Lengths b lens → r ≡ linesRefusal b ls start end category
 
--- r refuses a commitment of the first `count` rows, on any board that was found right or not and, if right, has these
+-- r is the refusal of a commitment of the first `count` rows, on any board that keeps the rules or not, as `right` says, and has
+-- these places and as many bookings where it keeps them
 abbrev pub CommitRefusal : Bool → List ℕ → List ℕ → List (List ℕ) → ℕ → ℕ → ℕ → ℕ → ℕ → Type 0
 CommitRefusal right places lens slate count start end category r =
     (b : Board) → right ≡ valid b → (valid b ≡ true → Known b places × Lengths b lens)

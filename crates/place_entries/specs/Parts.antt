@@ -39,7 +39,7 @@ pub record PlansKnown (b : Board) (a : Activity) (ready : ℕ) (plans : List Pla
   pub planned : Planned b a ready (b .len) plans
   pub places : OnPlaces b hs n
 
--- on some board, from some instant on
+-- they stand so on some board, from some instant on
 abbrev pub PlansOfSomeBoard : Activity → List Plan → List Selection → ℕ → Type 0
 PlansOfSomeBoard a plans hs n = (b : Board) × (ready : ℕ) × PlansKnown b a ready plans hs n
 

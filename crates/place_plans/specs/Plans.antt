@@ -65,7 +65,7 @@ planWith a r arrives =
 abbrev pub arrivalBy : List ℕ → Activity → ℕ → Resource → ℕ
 arrivalBy transport a ready r = ready + greatestTransport anywhere transport (a .origins) (r .number) 16
 
--- and that this is by 2^43
+-- it is reached by 2^43, the last instant that may be asked
 abbrev pub InReach : List ℕ → Activity → ℕ → Resource → Type 0
 InReach transport a ready r = arrivalBy transport a ready r ≤ lastAsked
 

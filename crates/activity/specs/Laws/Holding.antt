@@ -50,7 +50,8 @@ module _ (timings : List Timed) (held : List ℕ) (count : ℕ) where
   pub walk-start : Walk one nobody 0
   walk-start = record { multiplied = refl; led = refl; range = one-within; lawful = tt }
 
-  pub walk-step : (speed next : Float) (fixed lead : Leading) (i : ℕ) → Walk speed fixed i → i < count → count ≤ length held → i + 1 ≤ 26 → LawfulTiming (timingOf timings (getD held i 0))
+  pub walk-step : (speed next : Float) (fixed lead : Leading) (i : ℕ) → Walk speed fixed i → i < count → count ≤ length held → i + 1 ≤ 26
+      → LawfulTiming (timingOf timings (getD held i 0))
       → next ≡ times speed (timingOf timings (getD held i 0)) → lead ≡ greater fixed (timingOf timings (getD held i 0)) → Walk next lead (i + 1)
   unfolding product greatest
   walk-step speed next fixed lead i w lt le few l p q =
@@ -65,7 +66,8 @@ module _ (timings : List Timed) (held : List ℕ) (count : ℕ) where
         lawful = greater-lawful fixed t (w .lawful) l;
       })
 
-  walk-end : (speed : Float) (fixed : Leading) (i : ℕ) → Walk speed fixed i → count ≤ i → (product one (heldTimings timings all) ≡ speed) × (greatest nobody (heldTimings timings all) ≡ fixed)
+  walk-end : (speed : Float) (fixed : Leading) (i : ℕ) → Walk speed fixed i → count ≤ i
+      → (product one (heldTimings timings all) ≡ speed) × (greatest nobody (heldTimings timings all) ≡ fixed)
   unfolding product greatest
   walk-end speed fixed i w le =
       let e : drop i all ≡ [] = drop-of-length-le all {i = i} (simp length-take (omega arith)) in (
@@ -78,7 +80,8 @@ module _ (timings : List Timed) (held : List ℕ) (count : ℕ) where
   unfolding durationOn
   walk-own base d speed fixed i w le e = sym (ap (settled base (product one (heldTimings timings all))) (walk-end speed (leadingOf fixed) i w le .1 ∙ ap leadingOf e))
 
-  pub walk-base : (base : ActivityDuration) (r : ℕ) (speed : Float) (fixed : Fixed) (i : ℕ) → Walk speed (leadingOf fixed) i → count ≤ i → fixed ≡ Unset → r ≡ processAt (base .process) speed
+  pub walk-base : (base : ActivityDuration) (r : ℕ) (speed : Float) (fixed : Fixed) (i : ℕ) → Walk speed (leadingOf fixed) i → count ≤ i
+      → fixed ≡ Unset → r ≡ processAt (base .process) speed
       → record { setup = base .setup; process = r; teardown = base .teardown } ≡ durationOn base timings all
   unfolding durationOn
   walk-base base r speed fixed i w le e k =

@@ -18,7 +18,8 @@ use Rattle.activity.specs.declared.Activity.{Activity}
 use Rattle.activity.specs.Durations.{untimed, timingOf}
 use Rattle.cells.specs.Every.{every}
 use Rattle.cells.specs.Laws.Every.{every-at, every-in, every-of}
-use Rattle.activity.specs.Check.{releaseRight, short, timingShort, timingSpeed, quantity, quantityRight, quantitiesRight, usageRight, requirementsOf, timesRight, activityRefusal, heldRight, noRequirement}
+use Rattle.activity.specs.Check.{releaseRight, short, timingShort, timingSpeed, quantity, quantityRight, quantitiesRight, usageRight}
+use Rattle.activity.specs.Check.{requirementsOf, timesRight, activityRefusal, heldRight, noRequirement}
 use Rattle.activity.specs.Lawful.{Short, LawfulTiming, Lawful}
 
 -- the timings of an order in range

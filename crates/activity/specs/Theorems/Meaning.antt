@@ -5,7 +5,8 @@ use mathlib.Core.Bool.{Bool, true, false, cond}
 use mathlib.Core.List.{List, [], _∷_}
 use mathlib.Core.Logic.{_⊎_, inl, inr, ⊎-elim}
 use Prim.Native.Nat.{ℕ, zero, suc, _+_, _-_, _*_, _/_, _%_, _^_, _≤_, _<_}
-use native.Mathlib.Nat.{le-trans, le-of-lt, lt-of-lt-of-le, zero-lt-suc, mul-pos, mul-one, one-mul, mul-assoc, mul-right-comm, div-eq-of-lt-le, div-one, div-div-eq-div-mul, pow-succ', eq-or-lt-of-le}
+use native.Mathlib.Nat.{le-trans, le-of-lt, lt-of-lt-of-le, zero-lt-suc}
+use native.Mathlib.Nat.{mul-pos, mul-one, one-mul, mul-assoc, mul-right-comm, div-eq-of-lt-le, div-one, div-div-eq-div-mul, pow-succ', eq-or-lt-of-le}
 use native.Mathlib.Omega.{arith}
 use lib.IntN.{pos, negsuc}
 use lib.Dec.{T, leb, ltb, eqb, lit≤}
@@ -90,7 +91,8 @@ process-whole base s r h P small e =
 -- .. and at a speed that is a power of two the result is the base over it, rounded, or the base times its inverse
 pub process-faster : (base k : ℕ) → base < 2 ^ 53 → k ≤ 1023 → processAt base (fin false 1 (pos k)) ≡ halfUp base (2 ^ k)
 process-faster base k h l =
-    process-exact base (fin false 1 (pos k)) base k (le-of-lt h) tt h (le-trans l (lit≤ tt)) (ap (λ (y : ℕ). y * 2 ^ k) (mul-one base) ∙ ap (λ (y : ℕ). base * y) (sym (one-mul (2 ^ k))))
+    process-exact base (fin false 1 (pos k)) base k (le-of-lt h) tt h (le-trans l (lit≤ tt))
+    (ap (λ (y : ℕ). y * 2 ^ k) (mul-one base) ∙ ap (λ (y : ℕ). base * y) (sym (one-mul (2 ^ k))))
     ∙ ap (λ (y : ℕ). halfUp y (1 * 2 ^ k)) (mul-one base) ∙ ap (halfUp base) (one-mul (2 ^ k))
 
 pub process-slower : (base k : ℕ) → base ≤ 2 ^ 53 → base * 2 ^ suc k < 2 ^ 53 → processAt base (fin false 1 (negsuc k)) ≡ base * 2 ^ suc k
@@ -164,7 +166,8 @@ still-leads Nothing d h = refl
 still-leads (Speed s) d h = refl
 still-leads (Duration x) d h = rw (le-ltb (total d) (total x) (h x refl)) refl
 
-leads-on : (ts : List ResourceTiming) (d : ActivityDuration) → ((k : ℕ) (x : ActivityDuration) → getD ts k Nothing ≡ Duration x → total x ≤ total d) → greatest (owned d) ts ≡ owned d
+leads-on : (ts : List ResourceTiming) (d : ActivityDuration) → ((k : ℕ) (x : ActivityDuration) → getD ts k Nothing ≡ Duration x → total x ≤ total d)
+    → greatest (owned d) ts ≡ owned d
 unfolding greatest
 leads-on [] d h = refl
 leads-on (t ∷ ts) d h = rw (still-leads t d (h 0)) (leads-on ts d (λ k. h (suc k)))

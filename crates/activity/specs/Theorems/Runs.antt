@@ -57,7 +57,9 @@ durations = refl
 
 -- ties go away from zero, on either side of an even number; the double below a half goes down
 pub ties :
-    (roundAway (fin false 1 (negsuc 0)) ∷ roundAway (fin false 3 (negsuc 0)) ∷ roundAway (fin false 5 (negsuc 0)) ∷ roundAway (ofBits binary64 0x3fdf_ffff_ffff_ffff) ∷ []) ≡ 1 ∷ 2 ∷ 3 ∷ 0 ∷ []
+    (roundAway (fin false 1 (negsuc 0)) ∷ roundAway (fin false 3 (negsuc 0)) ∷ roundAway (fin false 5 (negsuc 0))
+    ∷ roundAway (ofBits binary64 0x3fdf_ffff_ffff_ffff) ∷ [])
+    ≡ 1 ∷ 2 ∷ 3 ∷ 0 ∷ []
 unfolding halfUp roundAway ofBits
 ties = refl
 

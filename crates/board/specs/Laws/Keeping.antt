@@ -38,7 +38,8 @@ widened ms false q x y f g h =
     rw (w .0, w .1, or-true (x && y)) refl
 
 -- one resource replaced by another with its number
-module _ (b : Board) (i : ℕ) (r : Resource) (long : length (b .resources) ≡ 16) (v : valid b ≡ true) (l : i < b .len) (h : resourceRight r ≡ true) (e : r .number ≡ numberAt b i) where
+module _ (b : Board) (i : ℕ) (r : Resource) (long : length (b .resources) ≡ 16) (v : valid b ≡ true) (l : i < b .len)
+    (h : resourceRight r ≡ true) (e : r .number ≡ numberAt b i) where
   here : resourceAt (withResource b i r) i ≡ r
   here = getD-set-same (b .resources) i r noResource (omega (arith, rules b v .few))
 

@@ -14,7 +14,8 @@ use Rattle.board.specs.Setups.{entryOr, matrixSetup, setupMs}
 use Rattle.calendar.specs.Sets.{bit}
 use Rattle.board.specs.Transport.{greatestTransport, transportTo}
 use Rattle.board.specs.Places.{anywhere}
-use Rattle.board.specs.Valid.{durationRight, entryRight, isZero, ownRight, entryCell, matrixRight, companionCell, companionsRight, lastRight, resourceRight, transportCell, transportRight, valid}
+use Rattle.board.specs.Valid.{durationRight, entryRight, isZero, ownRight, entryCell, matrixRight}
+use Rattle.board.specs.Valid.{companionCell, companionsRight, lastRight, resourceRight, transportCell, transportRight, valid}
 use Rattle.board.specs.declared.Board.{Board}
 use Rattle.board.specs.declared.LastCategory.{LastCategory}
 use Rattle.board.specs.declared.LastCategory.the-variants.{Nothing, Category}
@@ -92,7 +93,8 @@ pub off-nothing : (b : Board) → valid b ≡ true → (origins to n : ℕ) → 
 unfolding anywhere
 off-nothing b v origins to zero l m = rw (greatest-none anywhere (b .transport) origins to, greatest-none (onBoard b) (b .transport) origins to) refl
 off-nothing b v origins to (suc n) l m =
-    rw (greatest-next anywhere (b .transport) origins to n, greatest-next (onBoard b) (b .transport) origins to n, off-nothing b v origins to n l (omega arith)) (go (bit origins n) (onBoard b n) refl)
+    rw (greatest-next anywhere (b .transport) origins to n, greatest-next (onBoard b) (b .transport) origins to n, off-nothing b v origins to n l (omega arith))
+    (go (bit origins n) (onBoard b n) refl)
   where
     before : ℕ
     before = greatestTransport (onBoard b) (b .transport) origins to n
@@ -116,7 +118,8 @@ pub greatest-small : (on : ℕ → Bool) (b : Board) → valid b ≡ true → (o
 greatest-small on b v origins to zero l m = omega (arith, greatest-none on (b .transport) origins to)
 greatest-small on b v origins to (suc n) l m = rw (greatest-next on (b .transport) origins to n) (go (bit origins n && on n) (greatest-small on b v origins to n l (omega arith)))
   where
-    go : (q : Bool) → greatestTransport on (b .transport) origins to n ≤ 2 ^ 36 → max (greatestTransport on (b .transport) origins to n) (cond q (getD (b .transport) (16 * n + to) 0) 0) ≤ 2 ^ 36
+    go : (q : Bool) → greatestTransport on (b .transport) origins to n ≤ 2 ^ 36
+        → max (greatestTransport on (b .transport) origins to n) (cond q (getD (b .transport) (16 * n + to) 0) 0) ≤ 2 ^ 36
     go true h = omega (arith, transport-fact b v (16 * n + to) (omega arith) .0)
     go false h = omega arith
 

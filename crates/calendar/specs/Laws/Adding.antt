@@ -77,7 +77,8 @@ module _ (m : ℕ) (c : Calendar) (r l : TimeWindows) (z : m ≡ 0) (e : r ≡ l
   block-taken = rw (z, e) refl
 
 -- one span more keeps the rules
-pub span-right : (l : TimeWindows) (s e : ℕ) → length (l .starts) ≡ 32 → length (l .ends) ≡ 32 → l .len < 32 → s < e → e ≤ 2 ^ 42 → spansRight l ≡ true → spansRight (withSpan l s e) ≡ true
+pub span-right : (l : TimeWindows) (s e : ℕ) → length (l .starts) ≡ 32 → length (l .ends) ≡ 32 → l .len < 32 → s < e → e ≤ 2 ^ 42
+    → spansRight l ≡ true → spansRight (withSpan l s e) ≡ true
 unfolding withSpan
 span-right l s e a b m q z r =
     let w = right l r in

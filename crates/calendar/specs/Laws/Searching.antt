@@ -54,7 +54,8 @@ unfolding leastFrom
 least-none P from zero e x a b = absurd (omega arith)
 least-none P from (suc n) e x a b = go (P from) refl e (λ f g. least-none P (suc from) n f x g (omega arith))
   where
-    go : (b : Bool) → P from ≡ b → elim b [ true ↦ at from | false ↦ leastFrom P (suc from) n ] ≡ nothing → (leastFrom P (suc from) n ≡ nothing → suc from ≤ x → P x ≡ false) → P x ≡ false
+    go : (b : Bool) → P from ≡ b → elim b [ true ↦ at from | false ↦ leastFrom P (suc from) n ] ≡ nothing
+        → (leastFrom P (suc from) n ≡ nothing → suc from ≤ x → P x ≡ false) → P x ≡ false
     go true q f ih = absurd (not-at from (sym f))
     go false q f ih = ⊎-elim (λ (z : from ≡ x). rw (← z) q) (λ (z : from < x). ih f z) (eq-or-lt-of-le a)
 

@@ -72,7 +72,8 @@ any-some P l (suc n) t = go (P (spanAt l n)) refl (rw z at (any-last P l 0 n)) (
     z : 0 + n ≡ n
     z = omega arith
 
-    go : (b : Bool) → P (spanAt l n) ≡ b → any P (spansFrom l 0 (suc n)) ≡ any P (spansFrom l 0 n) || P (spanAt l n) → (any P (spansFrom l 0 n) ≡ true → (k : ℕ) × (k < n) × (P (spanAt l k) ≡ true)) → (k : ℕ) × (k < suc n) × (P (spanAt l k) ≡ true)
+    go : (b : Bool) → P (spanAt l n) ≡ b → any P (spansFrom l 0 (suc n)) ≡ any P (spansFrom l 0 n) || P (spanAt l n)
+        → (any P (spansFrom l 0 n) ≡ true → (k : ℕ) × (k < n) × (P (spanAt l k) ≡ true)) → (k : ℕ) × (k < suc n) × (P (spanAt l k) ≡ true)
     go true e f ih = (n, omega arith, e)
     go false e f ih =
         let r = ih (sym (rw (e, or-false (any P (spansFrom l 0 n))) at f) ∙ t) in

@@ -11,7 +11,8 @@ use Rattle.calendar.specs.Work.{working}
 use Rattle.calendar.specs.Plain.{Open, Quiet}
 use Rattle.calendar.specs.Theorems.Meaning.{fits-means, fits-is, working-means, working-is}
 
-open-back : (A B A′ B′ : Span → Type 0) (c : Calendar) (x : ℕ) → Quiet c x → ((w : Span) → (w .start ≡ x → ⊥) → A w → A′ w) → ((b : Span) → (b .end ≡ x → ⊥) → B b → B′ b) → Open A B c → Open A′ B′ c
+open-back : (A B A′ B′ : Span → Type 0) (c : Calendar) (x : ℕ) → Quiet c x → ((w : Span) → (w .start ≡ x → ⊥) → A w → A′ w)
+    → ((b : Span) → (b .end ≡ x → ⊥) → B b → B′ b) → Open A B c → Open A′ B′ c
 open-back A B A′ B′ c x q f g o = record {
   window = ⊎-elim (λ (z : c .windows .len ≡ 0). inl z) (λ (z : (k : ℕ) × (k < c .windows .len) × A (spanAt (c .windows) k)). inr (z .0, z .1, f _ (q .windows (z .0) (z .1)) (z .2))) (o .window);
   blocks = λ k l. g _ (q .blocks k l) (o .blocks k l);

@@ -82,7 +82,8 @@ end-none W p (suc w) zero q = omega arith
 end-none W p (suc w) (suc n) q = go (W p) q (end-none W (suc p) w n) (end-none W (suc p) (suc w) n)
   where
     go : (b : Bool) → elim b [ true ↦ endFrom W (suc p) w n | false ↦ endFrom W (suc p) (suc w) n ] ≡ nothing
-        → (endFrom W (suc p) w n ≡ nothing → worked W (suc p) n < w) → (endFrom W (suc p) (suc w) n ≡ nothing → worked W (suc p) n < suc w) → cond b 1 0 + worked W (suc p) n < suc w
+        → (endFrom W (suc p) w n ≡ nothing → worked W (suc p) n < w) → (endFrom W (suc p) (suc w) n ≡ nothing → worked W (suc p) n < suc w)
+        → cond b 1 0 + worked W (suc p) n < suc w
     go true f ih jh = omega (arith, ih f)
     go false f ih jh = omega (arith, jh f)
 

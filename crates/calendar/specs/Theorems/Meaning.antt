@@ -12,7 +12,8 @@ use Rattle.calendar.specs.Search.{nothing, at}
 use Rattle.calendar.specs.Spans.{Span, spanAt, spans, any, holds, meets, contains}
 use Rattle.calendar.specs.Fits.{openFor, fits}
 use Rattle.calendar.specs.Work.{working, joint, lastChange, jointEnd}
-use Rattle.calendar.specs.Laws.Spanning.{open-some, open-by-none, open-by-some, any-some, any-none, some-any, none-any, holds-yes, holds-facts, meets-yes, meets-no, contains-yes, contains-no, contains-facts}
+use Rattle.calendar.specs.Laws.Spanning.{open-some, open-by-none, open-by-some, any-some, any-none, some-any, none-any}
+use Rattle.calendar.specs.Laws.Spanning.{holds-yes, holds-facts, meets-yes, meets-no, contains-yes, contains-no, contains-facts}
 use Rattle.calendar.specs.Plain.{worked, Ends, Open, Unbroken, Working}
 use Rattle.calendar.specs.Laws.WorkEnds.{work-end-found, work-end-none, joint-changeless}
 
@@ -61,7 +62,9 @@ module _ (c : Calendar) (s e : ℕ) where
 
   pub fits-is : Unbroken c s e → fits c s e ≡ true
   unfolding fits
-  fits-is u = open-is (holds s e) (meets s e) _ _ c (λ w h. holds-yes s e w (h .0) (h .1)) (λ b h. meets-no s e b (λ x y. ⊎-elim (λ (z : e ≤ b .start). omega arith) (λ (z : b .end ≤ s). omega arith) h)) u
+  fits-is u =
+      open-is (holds s e) (meets s e) _ _ c (λ w h. holds-yes s e w (h .0) (h .1))
+      (λ b h. meets-no s e b (λ x y. ⊎-elim (λ (z : e ≤ b .start). omega arith) (λ (z : b .end ≤ s). omega arith) h)) u
 
 module _ (c : Calendar) (p : ℕ) where
   pub working-means : working c p ≡ true → Working c p
@@ -70,7 +73,9 @@ module _ (c : Calendar) (p : ℕ) where
 
   pub working-is : Working c p → working c p ≡ true
   unfolding working
-  working-is u = open-is (contains p) (contains p) _ _ c (λ w h. contains-yes p w (h .0) (h .1)) (λ b h. contains-no p b (λ x y. ⊎-elim (λ (z : p < b .start). omega arith) (λ (z : b .end ≤ p). omega arith) h)) u
+  working-is u =
+      open-is (contains p) (contains p) _ _ c (λ w h. contains-yes p w (h .0) (h .1))
+      (λ b h. contains-no p b (λ x y. ⊎-elim (λ (z : p < b .start). omega arith) (λ (z : b .end ≤ p). omega arith) h)) u
 
 -- `work_end` of some calendars: the least end with w joint working milliseconds before it, and nothing only where there is none.
 pub joint-end-found : (cs : List Calendar) (p w e : ℕ) → jointEnd cs p w ≡ at e → (joint cs p ≡ true) × Ends (joint cs) p w e

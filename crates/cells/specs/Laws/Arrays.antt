@@ -10,14 +10,16 @@ use Rattle.cells.specs.Every.{Each, each-end, each-on, Pairs, pairs-end,
 
 module _ {A B : Type 0} (f : A → B) where
   -- cell by cell the image of another array
-  pub cells-map : (d : A) (e : B) (n : ℕ) (xs : List A) (ys : List B) → n ≤ length xs → n ≤ length ys → ((k : ℕ) → k < n → getD ys k e ≡ f (getD xs k d)) → take n ys ≡ map f (take n xs)
+  pub cells-map : (d : A) (e : B) (n : ℕ) (xs : List A) (ys : List B) → n ≤ length xs → n ≤ length ys
+      → ((k : ℕ) → k < n → getD ys k e ≡ f (getD xs k d)) → take n ys ≡ map f (take n xs)
   cells-map d e zero xs ys l m h = refl
   cells-map d e (suc n) [] ys l m h = absurd (omega arith)
   cells-map d e (suc n) (x ∷ xs) [] l m h = absurd (omega arith)
   cells-map d e (suc n) (x ∷ xs) (y ∷ ys) l m h = rw (h 0 (omega arith), cells-map d e n xs ys (omega arith) (omega arith) (λ k i. h (suc k) (omega arith))) refl
 
 -- one more behind those that stand there
-pub pushed-next : {A : Type 0} (xs ms base : List A) (n i : ℕ) (d : A) → n + i < length xs → i < length ms → take (n + i) xs ≡ base ++ take i ms → take (n + (i + 1)) (set xs (n + i) (getD ms i d)) ≡ base ++ take (i + 1) ms
+pub pushed-next : {A : Type 0} (xs ms base : List A) (n i : ℕ) (d : A) → n + i < length xs → i < length ms → take (n + i) xs ≡ base ++ take i ms
+    → take (n + (i + 1)) (set xs (n + i) (getD ms i d)) ≡ base ++ take (i + 1) ms
 pushed-next xs ms base n i d l m e =
     let z : n + (i + 1) ≡ suc (n + i) = omega arith in
     rw (z, take-suc-set xs (n + i) (getD ms i d) l, e, take-next ms i d m) (append-assoc base (take i ms) (getD ms i d ∷ []))

@@ -96,7 +96,9 @@ told-placed (chosenNone u) t s e n h = absurd (not-both true refl (sym (ap isPla
 told-placed none t s e n h = absurd (not-both true refl (sym (ap isPlaced h)))
 told-placed (refused m) t s e n h = absurd (not-both true refl (sym (ap isPlaced h)))
 
-module _ (b c : Board) (k : Alike b c) (a : Activity) (ready : ℕ) (slate other : List (List ℕ)) (both : ltb (length slate) 24 ≡ ltb (length other) 24) (r q : Placement) (after later : List (List ℕ)) (first : Called b a ready slate r after) (second : Called c a ready other q later) where
+module _ (b c : Board) (k : Alike b c) (a : Activity) (ready : ℕ) (slate other : List (List ℕ))
+    (both : ltb (length slate) 24 ≡ ltb (length other) 24)
+    (r q : Placement) (after later : List (List ℕ)) (first : Called b a ready slate r after) (second : Called c a ready other q later) where
   theorem : Demand3 b c a ready slate other
   theorem = demand-3 b c k a ready slate other both
 
@@ -124,7 +126,8 @@ module _ (b c : Board) (k : Alike b c) (a : Activity) (ready : ℕ) (slate other
     rows : take n later ≡ take n after
     rows =
         ap (take n) (second .rows)
-        ∙ subst (λ (m : ℕ). take m (slateAfter (placeReply c a ready (length other)) other) ≡ take m (slateAfter (placeReply b a ready (length slate)) slate)) (known .2) (theorem .same-rows t s e es (known .1) free)
+        ∙ subst (λ (m : ℕ). take m (slateAfter (placeReply c a ready (length other)) other) ≡ take m (slateAfter (placeReply b a ready (length slate)) slate))
+        (known .2) (theorem .same-rows t s e es (known .1) free)
         ∙ sym (ap (take n) (first .rows))
 
   earlier : (u : ℕ) → instantOf q ≡ at u → (t : ℕ) × (instantOf r ≡ at t) × (t ≤ u)
@@ -137,5 +140,7 @@ module _ (b c : Board) (k : Alike b c) (a : Activity) (ready : ℕ) (slate other
     same-placement = placement;
     same-rows = rows;
     never-earlier = earlier;
-    same-refusal = ap refusedBy (first .reply) ∙ told-refusal (placeReply b a ready (length slate)) ∙ theorem .same-refusal ∙ sym (told-refusal (placeReply c a ready (length other))) ∙ sym (ap refusedBy (second .reply));
+    same-refusal =
+        ap refusedBy (first .reply) ∙ told-refusal (placeReply b a ready (length slate)) ∙ theorem .same-refusal
+        ∙ sym (told-refusal (placeReply c a ready (length other))) ∙ sym (ap refusedBy (second .reply));
   }

@@ -36,7 +36,8 @@ pub can-less : (resumable : Bool) (span : ℕ) (x y : Share) (s : ℕ) → Alike
 unfolding canStart startsAt freeTo fitsAt
 can-less true span x y s a h = go (jointEnd (y .timeline .calendar ∷ []) s span) refl h
   where
-    go : (f : Found) → jointEnd (y .timeline .calendar ∷ []) s span ≡ f → freeTo (y .timeline) (y .units) s f ≡ true → freeTo (x .timeline) (x .units) s (jointEnd (x .timeline .calendar ∷ []) s span) ≡ true
+    go : (f : Found) → jointEnd (y .timeline .calendar ∷ []) s span ≡ f → freeTo (y .timeline) (y .units) s f ≡ true
+        → freeTo (x .timeline) (x .units) s (jointEnd (x .timeline .calendar ∷ []) s span) ≡ true
     go nothing e g = absurd (not-both _ g refl)
     go (at d) e g = rw (ap (λ (c : Calendar). jointEnd (c ∷ []) s span) (a .alike .calendar-same) ∙ e) (free-less x y s d a g)
 can-less false span x y s a h =

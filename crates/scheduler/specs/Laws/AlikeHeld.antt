@@ -27,7 +27,9 @@ use Rattle.board.specs.Setups.{setupOn}
 use Rattle.scheduler.specs.Alone.{Share, allStart, lastOf, diaryOf, companionsOf}
 use Rattle.scheduler.specs.Choosing.{Candidate, sort, Held, heldFor, holdFirst}
 use Rattle.scheduler.specs.declared.Entry.{Entry}
-use Rattle.scheduler.specs.Fitting.{numberOf, numbersOf, durationTogether, heldEntry, heldEntries, among, joinEach, allCompanions, companionEntry, companionEntries, entriesOf, spanTogether, shareOf, sharesOf, fitsAll, allFree, freeToEnd, calendarOf, calendarsOf, startsAll, suits, lastAll, fitting, endOf}
+use Rattle.scheduler.specs.Fitting.{numberOf, numbersOf, durationTogether, heldEntry, heldEntries, among, joinEach, allCompanions}
+use Rattle.scheduler.specs.Fitting.{companionEntry, companionEntries, entriesOf, spanTogether, shareOf, sharesOf}
+use Rattle.scheduler.specs.Fitting.{fitsAll, allFree, freeToEnd, calendarOf, calendarsOf, startsAll, suits, lastAll, fitting, endOf}
 use Rattle.scheduler.specs.Placing.{ended, started, fitted}
 use Rattle.scheduler.specs.Plain.{startsThere, candidateAt, startable, enough, heldAt}
 use Rattle.cells.specs.Every.{Each, each-end, each-on, Pairs, pairs-end, pairs-on}
@@ -54,13 +56,15 @@ module _ (b c : Board) (k : Alike b c) (a : Activity) (ready : ℕ) where
   Unclean x = Clean b c k (x .resource) → ⊥
 
   -- those that can start on the second board are some of those that can on the first; only one with extras falls out
-  startable-sub : (q : ResourceRequirement) (t : ℕ) (rs ss : List Resource) → Pairs (Twin b c) rs ss → Sub Unclean TwinCandidate (startable b a ready q t rs) (startable c a ready q t ss)
+  startable-sub : (q : ResourceRequirement) (t : ℕ) (rs ss : List Resource) → Pairs (Twin b c) rs ss
+      → Sub Unclean TwinCandidate (startable b a ready q t rs) (startable c a ready q t ss)
   unfolding startable
   startable-sub q t [] [] pairs-end = sub-end
   startable-sub q t (r ∷ rs) (s ∷ ss) (pairs-on w p) = go (startsThere b a ready q r t) (startsThere c a ready q s t) refl refl (startable-sub q t rs ss p)
     where
       go : (u v : Bool) → startsThere b a ready q r t ≡ u → startsThere c a ready q s t ≡ v → Sub Unclean TwinCandidate (startable b a ready q t rs) (startable c a ready q t ss)
-          → Sub Unclean TwinCandidate (cond u (candidateAt a t r ∷ startable b a ready q t rs) (startable b a ready q t rs)) (cond v (candidateAt a t s ∷ startable c a ready q t ss) (startable c a ready q t ss))
+          → Sub Unclean TwinCandidate (cond u (candidateAt a t r ∷ startable b a ready q t rs) (startable b a ready q t rs))
+          (cond v (candidateAt a t s ∷ startable c a ready q t ss) (startable c a ready q t ss))
       go true true e f i = sub-keep (record { start-same = refl; process-same = ap (λ (d : ActivityDuration). d .process) (duration-twin b c k a r s w); twin = w }) i
       go true false e f i = sub-drop (λ z. not-both (startsThere c a ready q s t) (starts-same b c k a r s w ready q t z e) f) i
       go false true e f i = absurd (not-both (startsThere b a ready q r t) (starts-less b c k a r s w ready q t f) e)
@@ -153,7 +157,8 @@ unfolding joinEach
 join-keeps held n joined [] e = e
 join-keeps held n joined (c ∷ cs) e = go (among c held || among c joined) (join-keeps held n joined cs e) (join-keeps held n (joined ++ (c ∷ [])) cs (among-append n joined (c ∷ []) ∙ or-in-left (among n joined) (among n (c ∷ [])) e))
   where
-    go : (q : Bool) → among n (joinEach held joined cs) ≡ true → among n (joinEach held (joined ++ (c ∷ [])) cs) ≡ true → among n (joinEach held (cond q joined (joined ++ (c ∷ []))) cs) ≡ true
+    go : (q : Bool) → among n (joinEach held joined cs) ≡ true → among n (joinEach held (joined ++ (c ∷ [])) cs) ≡ true
+        → among n (joinEach held (cond q joined (joined ++ (c ∷ []))) cs) ≡ true
     go true f g = f
     go false f g = g
 
@@ -166,7 +171,8 @@ join-each held joined (c ∷ cs) = go (among c held) (among c joined) refl refl 
     Goal : List ℕ → Type 0
     Goal j = Each (λ d. among d held || among d (joinEach held j cs) ≡ true) (c ∷ cs)
 
-    go : (p q : Bool) → among c held ≡ p → among c joined ≡ q → Each (λ d. among d held || among d (joinEach held joined cs) ≡ true) cs → Each (λ d. among d held || among d (joinEach held (joined ++ (c ∷ [])) cs) ≡ true) cs
+    go : (p q : Bool) → among c held ≡ p → among c joined ≡ q → Each (λ d. among d held || among d (joinEach held joined cs) ≡ true) cs
+        → Each (λ d. among d held || among d (joinEach held (joined ++ (c ∷ [])) cs) ≡ true) cs
         → Goal (cond (p || q) joined (joined ++ (c ∷ [])))
     go true q e f i j = each-on (or-in-left (among c held) (among c (joinEach held joined cs)) e) i
     go false true e f i j = each-on (or-in-right (among c held) (among c (joinEach held joined cs)) (join-keeps held c joined cs f)) i

@@ -16,7 +16,8 @@ use Rattle.scheduler.specs.Alone.{spanOf}
 use Rattle.scheduler.specs.Choosing.{Held, Choice, noChoice, chosen, choosing}
 use Rattle.scheduler.specs.declared.Entry.{Entry}
 use Rattle.scheduler.specs.Fitting.{entriesOf, spanTogether, sharesOf, fitting, endOf}
-use Rattle.scheduler.specs.Placing.{Reply, placed, chosenNone, none, refused, ended, started, fitted, fitChosen, timeOnly, byRequirements, placing, choosingInstant, refusalOf}
+use Rattle.scheduler.specs.Placing.{Reply, placed, chosenNone, none, refused, ended, started}
+use Rattle.scheduler.specs.Placing.{fitted, fitChosen, timeOnly, byRequirements, placing, choosingInstant, refusalOf}
 use Rattle.scheduler.specs.Plain.{enough, heldAt, Chooses}
 use Rattle.cells.specs.Every.{Each, each-end, Pairs}
 use Rattle.scheduler.specs.Theorems.Meaning.{choosing-means}
@@ -38,7 +39,8 @@ fitted-instant b a span t es = go (fitting (a .resumable) (sharesOf b es) (a .ca
     go (at s) = end s (endOf (a .resumable) (sharesOf b es) (a .calendar) span s)
 
 -- what the two boards choose
-module _ (b c : Board) (k : Alike b c) (a : Activity) (ready : ℕ) (q : ResourceRequirement) (qs : List ResourceRequirement) (asks : requirementsOf a ≡ q ∷ qs) (some : 1 ≤ q .quantity) where
+module _ (b c : Board) (k : Alike b c) (a : Activity) (ready : ℕ) (q : ResourceRequirement) (qs : List ResourceRequirement)
+    (asks : requirementsOf a ≡ q ∷ qs) (some : 1 ≤ q .quantity) where
   abbrev P : ℕ → Bool
   P x = enough b a ready (q ∷ qs) x
 
@@ -66,7 +68,8 @@ module _ (b c : Board) (k : Alike b c) (a : Activity) (ready : ℕ) (q : Resourc
       go (chosen t hs) h w = (t, hs, h, ⊎-elim (λ (l : u < t). absurd (not-both (P u) on (w .0 .first u (late .0 .low) l))) (λ (l : t ≤ u). l) (lt-or-ge u t))
 
   -- and where no extra is on those held and their companions, it chooses the same
-  chosen-same : (t : ℕ) (hs : List Held) → choosing b a ready ≡ chosen t hs → Each (λ h. Clean b c k (h .resource)) hs → (ks : List Held) × (choosing c a ready ≡ chosen t ks) × Pairs (TwinHeld b c k a ready) hs ks
+  chosen-same : (t : ℕ) (hs : List Held) → choosing b a ready ≡ chosen t hs → Each (λ h. Clean b c k (h .resource)) hs
+      → (ks : List Held) × (choosing c a ready ≡ chosen t ks) × Pairs (TwinHeld b c k a ready) hs ks
   chosen-same t hs e z = go (choosing c a ready) refl second
     where
       early : Earliest P ready t × (hs ≡ heldAt b a ready (q ∷ qs) t)
@@ -75,7 +78,8 @@ module _ (b c : Board) (k : Alike b c) (a : Activity) (ready : ℕ) (q : Resourc
       both : (Q t ≡ true) × Pairs (TwinHeld b c k a ready) (heldAt b a ready (q ∷ qs) t) (heldAt c a ready (q ∷ qs) t)
       both = held-same b c k a ready (q ∷ qs) t (subst (Each (λ h. Clean b c k (h .resource))) (early .1) z) (early .0 .holds)
 
-      go : (f : Choice) → choosing c a ready ≡ f → Chooses Q (heldAt c a ready (q ∷ qs)) ready f → (ks : List Held) × (choosing c a ready ≡ chosen t ks) × Pairs (TwinHeld b c k a ready) hs ks
+      go : (f : Choice) → choosing c a ready ≡ f → Chooses Q (heldAt c a ready (q ∷ qs)) ready f
+          → (ks : List Held) × (choosing c a ready ≡ chosen t ks) × Pairs (TwinHeld b c k a ready) hs ks
       go noChoice h w = absurd (not-both (Q t) (both .0) (w t (early .0 .low)))
       go (chosen u ks) h w =
           let l = ⊎-elim (λ (m : t < u). absurd (not-both (Q t) (both .0) (w .0 .first t (early .0 .low) m))) (λ (m : u ≤ t). m) (lt-or-ge t u) in
@@ -140,7 +144,8 @@ module _ (b c : Board) (k : Alike b c) (a : Activity) (ready from : ℕ) (lawful
   unfolding placing byRequirements timeOnly fitChosen isPlaced entriesIn
   placing-same t s e es h z = go (requirementsOf a) refl h
     where
-      held : (q : ResourceRequirement) (qs : List ResourceRequirement) → requirementsOf a ≡ q ∷ qs → (f : Choice) → choosing b a ready ≡ f → fitChosen b a f ≡ placed t s e es → fitChosen c a (choosing c a ready) ≡ placed t s e es
+      held : (q : ResourceRequirement) (qs : List ResourceRequirement) → requirementsOf a ≡ q ∷ qs → (f : Choice) → choosing b a ready ≡ f
+          → fitChosen b a f ≡ placed t s e es → fitChosen c a (choosing c a ready) ≡ placed t s e es
       held q qs asks noChoice f g = not-placed none refl t s e es g
       held q qs asks (chosen u hs) f g =
           let i : entriesOf a hs ≡ es = sym (fitted-entries b a (spanTogether a hs) u (entriesOf a hs) (ap isPlaced g)) ∙ ap entriesIn g in
@@ -150,7 +155,9 @@ module _ (b c : Board) (k : Alike b c) (a : Activity) (ready from : ℕ) (lawful
           let n : fitted c a (spanTogether a (w .0)) u (entriesOf a (w .0)) ≡ fitted c a (spanTogether a hs) u (entriesOf a hs) = ap (λ (x : List Entry). fitted c a (spanTogether a (w .0)) u x) (sym (j .0)) ∙ ap (λ (m : ℕ). fitted c a m u (entriesOf a hs)) (sym (j .1)) in
           ap (fitChosen c a) (w .1) ∙ n ∙ sym (fitted-same b c k a (entriesOf a hs) y (spanTogether a hs) u) ∙ g
 
-      go : (l : List ResourceRequirement) → requirementsOf a ≡ l → byRequirements l (timeOnly b a ready) (fitChosen b a (choosing b a ready)) ≡ placed t s e es → byRequirements l (timeOnly c a ready) (fitChosen c a (choosing c a ready)) ≡ placed t s e es
+      go : (l : List ResourceRequirement) → requirementsOf a ≡ l
+          → byRequirements l (timeOnly b a ready) (fitChosen b a (choosing b a ready)) ≡ placed t s e es
+          → byRequirements l (timeOnly c a ready) (fitChosen c a (choosing c a ready)) ≡ placed t s e es
       go [] asks g = sym (fitted-same b c k a [] each-end (spanOf (a .duration .setup) (a .duration)) ready) ∙ g
       go (q ∷ qs) asks g = held q qs asks (choosing b a ready) refl g
 
@@ -159,7 +166,8 @@ module _ (b c : Board) (k : Alike b c) (a : Activity) (ready from : ℕ) (lawful
   unfolding placing byRequirements timeOnly fitChosen choosingInstant when
   placing-later u h = go (requirementsOf a) refl h
     where
-      held : (q : ResourceRequirement) (qs : List ResourceRequirement) → requirementsOf a ≡ q ∷ qs → (f : Choice) → choosing c a ready ≡ f → choosingInstant (fitChosen c a f) ≡ at u → (t : ℕ) × (choosingInstant (fitChosen b a (choosing b a ready)) ≡ at t) × (t ≤ u)
+      held : (q : ResourceRequirement) (qs : List ResourceRequirement) → requirementsOf a ≡ q ∷ qs → (f : Choice) → choosing c a ready ≡ f
+          → choosingInstant (fitChosen c a f) ≡ at u → (t : ℕ) × (choosingInstant (fitChosen b a (choosing b a ready)) ≡ at t) × (t ≤ u)
       held q qs asks noChoice f g = absurd (not-at u g)
       held q qs asks (chosen v ks) f g =
           let i : v ≡ u = ap when (sym (fitted-instant c a (spanTogether a ks) v (entriesOf a ks)) ∙ g) in

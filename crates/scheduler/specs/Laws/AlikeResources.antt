@@ -93,7 +93,9 @@ module _ (b c : Board) (k : Alike b c) where
 
     module _ (ready : ℕ) (q : ResourceRequirement) (t : ℕ) where
       -- on the second board only what is free is tested otherwise
-      second : startsThere c a ready q s t ≡ serves q (r .number) (r .kind) (r .skills) && (every (onBoard b) (companionsOf r) && (leb (arrival b a ready r) t && allStart (a .resumable) (spanAlone a r) (withCompanions c s (q .usage)) t))
+      second : startsThere c a ready q s t
+          ≡ serves q (r .number) (r .kind) (r .skills)
+          && (every (onBoard b) (companionsOf r) && (leb (arrival b a ready r) t && allStart (a .resumable) (spanAlone a r) (withCompanions c s (q .usage)) t))
       unfolding startsThere
       second =
           let e : serves q (s .number) (s .kind) (s .skills) ≡ serves q (r .number) (r .kind) (r .skills) = sym serves-twin in

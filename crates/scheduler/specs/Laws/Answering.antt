@@ -56,7 +56,8 @@ module _ (b : Board) (a : Activity) (ready : ℕ) (q : ResourceRequirement) wher
       }
 
       go : (p c : Bool) → every (onBoard b) (companionsOf r) ≡ c
-          → Answers (λ x. p && (c && (leb (arrival b a ready r) x && all x))) t (cond p (cond c (earliestOf (a .resumable) span (withCompanions b r (q .usage)) from) nothing) nothing)
+          → Answers (λ x. p && (c && (leb (arrival b a ready r) x && all x))) t
+          (cond p (cond c (earliestOf (a .resumable) span (withCompanions b r (q .usage)) from) nothing) nothing)
       go false c e = λ x h. refl
       go true false e = λ x h. refl
       go true true e = here (earliestOf (a .resumable) span (withCompanions b r (q .usage)) from) (together-answers (a .resumable) span (withCompanions b r (q .usage)) from (k e))
@@ -76,7 +77,8 @@ module _ (b : Board) (a : Activity) (ready : ℕ) (q : ResourceRequirement) wher
     where
       one : (s : ℕ) → Earliest (startsThere b a ready q r) t s → (l p : Bool) → leb s t ≡ l → startsThere b a ready q r t ≡ p
           → low t (candidates b a ready q t rs) ≡ startable b a ready q t rs
-          → cond l (candidateAt a s r ∷ low t (candidates b a ready q t rs)) (low t (candidates b a ready q t rs)) ≡ cond p (candidateAt a t r ∷ startable b a ready q t rs) (startable b a ready q t rs)
+          → cond l (candidateAt a s r ∷ low t (candidates b a ready q t rs)) (low t (candidates b a ready q t rs))
+          ≡ cond p (candidateAt a t r ∷ startable b a ready q t rs) (startable b a ready q t rs)
       one s w true true m e ih =
           let z : s ≡ t = omega (arith, w .low, leb-true s t m) in
           rw (z, ih) refl
@@ -103,7 +105,8 @@ module _ (b : Board) (a : Activity) (ready : ℕ) (q : ResourceRequirement) wher
     where
       one : (s : ℕ) → Earliest (startsThere b a ready q r) t s → (m p : Bool) → leb s u ≡ m → startsThere b a ready q r u ≡ p
           → length (startable b a ready q u rs) ≤ length (low u (candidates b a ready q t rs))
-          → length (cond p (candidateAt a u r ∷ startable b a ready q u rs) (startable b a ready q u rs)) ≤ length (cond m (candidateAt a s r ∷ low u (candidates b a ready q t rs)) (low u (candidates b a ready q t rs)))
+          → length (cond p (candidateAt a u r ∷ startable b a ready q u rs) (startable b a ready q u rs))
+          ≤ length (cond m (candidateAt a s r ∷ low u (candidates b a ready q t rs)) (low u (candidates b a ready q t rs)))
       one s w true true m e ih = omega arith
       one s w true false m e ih = omega arith
       one s w false true m e ih = absurd (not-both (startsThere b a ready q r u) e (w .first u l (leb-false s u m)))
@@ -111,7 +114,8 @@ module _ (b : Board) (a : Activity) (ready : ℕ) (q : ResourceRequirement) wher
 
       go : (f : Found) → Answers (startsThere b a ready q r) t f → (p : Bool) → startsThere b a ready q r u ≡ p
           → length (startable b a ready q u rs) ≤ length (low u (candidates b a ready q t rs))
-          → length (cond p (candidateAt a u r ∷ startable b a ready q u rs) (startable b a ready q u rs)) ≤ length (low u (answer (durationAlone a r .process) r f ++ candidates b a ready q t rs))
+          → length (cond p (candidateAt a u r ∷ startable b a ready q u rs) (startable b a ready q u rs))
+          ≤ length (low u (answer (durationAlone a r .process) r f ++ candidates b a ready q t rs))
       go nothing w true e ih = absurd (not-both (startsThere b a ready q r u) e (w u l))
       go nothing w false e ih = ih
       go (at s) w p e ih = one s w (leb s u) p refl e ih

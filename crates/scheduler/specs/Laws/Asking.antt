@@ -113,7 +113,8 @@ module _ (resumable : Bool) (span : ℕ) (xs : List Share) where
       together-is resumable span xs from (at t) sound (record { low = a .sought .low; holds = rw z at (a .fine); first = a .sought .none })
 
 -- a diary more is asked, or the start has moved on to a listed instant and fewer are left after it
-pub asked-less : (l : List ℕ) (n before t i x : ℕ) → n < 32 → i < n → before ≤ t → t ≤ x → (x ≡ t) ⊎ (among x l ≡ true) → above l x * 32 + (n - nextAsked i (eqb x t)) < above l before * 32 + (n - i)
+pub asked-less : (l : List ℕ) (n before t i x : ℕ) → n < 32 → i < n → before ≤ t → t ≤ x → (x ≡ t) ⊎ (among x l ≡ true)
+    → above l x * 32 + (n - nextAsked i (eqb x t)) < above l before * 32 + (n - i)
 asked-less l n before t i x few m low on listed = go (eqb x t) refl
   where
     go : (q : Bool) → eqb x t ≡ q → above l x * 32 + (n - nextAsked i q) < above l before * 32 + (n - i)

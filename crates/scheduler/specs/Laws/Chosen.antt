@@ -28,7 +28,8 @@ use Rattle.cells.specs.Laws.Each.{each-append}
 use Rattle.scheduler.specs.Laws.Together.{all-back}
 use Rattle.scheduler.specs.Laws.Ranking.{each-sort}
 use Rattle.scheduler.specs.Laws.Answering.{KeepsRules, alone-answers, told}
-use Rattle.scheduler.specs.Laws.Rounds.{heldIn, not-few, hold-parts, each-hold, greatest-le, starts-le, greatest-ge, round-at, round-upto, round-from, round-stays, round-some}
+use Rattle.scheduler.specs.Laws.Rounds.{heldIn, not-few, hold-parts, each-hold, greatest-le, starts-le, greatest-ge}
+use Rattle.scheduler.specs.Laws.Rounds.{round-at, round-upto, round-from, round-stays, round-some}
 use Rattle.scheduler.specs.Instants.{eventsOf, above}
 use Rattle.scheduler.specs.Laws.Events.{calm-else, least-listed, above-falls}
 
@@ -82,7 +83,8 @@ module _ (b : Board) (a : Activity) (ready : ℕ) (kept : (q : ResourceRequireme
           let k = all-back (a .resumable) (spanAlone a r) (withCompanions b r (q .usage)) y (calm-else (withCompanions b r (q .usage)) y (or-right (eqb (arrival b a ready r) (suc y)) (among (suc y) (eventsOf (withCompanions b r (q .usage)))) e)) (z .1) in
           and-join S (C && (arrived y && all y)) (u .0) (and-join C (arrived y && all y) (v .0) (and-join (arrived y) (all y) (le-leb (arrival b a ready r) y (omega arith)) k))
 
-  candidates-listed : (q : ResourceRequirement) (t : ℕ) (rs : List Resource) → Each (KeepsRules b a ready q) rs → Each (Listed q) rs → Each (λ c. OnPoint t (c .start)) (candidates b a ready q t rs)
+  candidates-listed : (q : ResourceRequirement) (t : ℕ) (rs : List Resource) → Each (KeepsRules b a ready q) rs → Each (Listed q) rs
+      → Each (λ c. OnPoint t (c .start)) (candidates b a ready q t rs)
   unfolding candidates answer
   candidates-listed q t [] each-end each-end = each-end
   candidates-listed q t (r ∷ rs) (each-on k ks) (each-on f fs) =
@@ -140,7 +142,8 @@ module _ (b : Board) (a : Activity) (ready : ℕ) (kept : (q : ResourceRequireme
           (p, ap heldIn (sym e ∙ round-at b a ready kept t (q ∷ qs) p))
 
       -- a step leads to a listed instant, after which fewer are left
-      pub round-falls : (t : ℕ) (hs : List Held) → round b a ready t (q ∷ qs) ≡ holds hs → (greatestStart hs ≡ t → ⊥) → (t ≤ greatestStart hs) × (above points (greatestStart hs) < above points t)
+      pub round-falls : (t : ℕ) (hs : List Held) → round b a ready t (q ∷ qs) ≡ holds hs → (greatestStart hs ≡ t → ⊥)
+          → (t ≤ greatestStart hs) × (above points (greatestStart hs) < above points t)
       round-falls t hs e ne =
           let most = round-some b a ready kept t q qs hs some e in
           let ge = greatest-ge t hs (round-from b a ready kept t (q ∷ qs) hs e) most in
@@ -162,7 +165,9 @@ module _ (b : Board) (a : Activity) (ready : ℕ) (kept : (q : ResourceRequireme
               let w = round-falls t hs e (eqb-false (greatestStart hs) t k) in
               again (greatestStart hs) (omega (arith, w .1)) (onward t hs e s (w .0))
 
-          go : (r : Round) → round b a ready t (q ∷ qs) ≡ r → ((u : ℕ) → above points u < n → Sought P ready u → Chooses P H ready (rounds n b a ready u)) → Chooses P H ready (settle t r (rounds n b a ready))
+          go : (r : Round) → round b a ready t (q ∷ qs) ≡ r
+              → ((u : ℕ) → above points u < n → Sought P ready u → Chooses P H ready (rounds n b a ready u))
+              → Chooses P H ready (settle t r (rounds n b a ready))
           go tooFew e again = λ x m. ⊎-elim (λ (z : x < t). s .none x m z) (λ (z : t ≤ x). never t e x z) (lt-or-ge x t)
           go (holds hs) e again = step hs e (eqb (greatestStart hs) t) refl again
 

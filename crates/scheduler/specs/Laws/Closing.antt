@@ -23,7 +23,8 @@ use Rattle.scheduler.specs.Shares.{ownShare}
 use Rattle.scheduler.specs.Laws.Owning.{own-valid, own-last, suits-on, suits-on-back}
 
 -- the least start that suits all entries and the order's own calendar, or that none does
-pub fitting-answers : (resumable : Bool) (xs : List Share) (own : Calendar) (span from : ℕ) → Sound xs → calendar.valid own ≡ true → Answers (suits resumable xs own span) from (fitting resumable xs own span from)
+pub fitting-answers : (resumable : Bool) (xs : List Share) (own : Calendar) (span from : ℕ) → Sound xs → calendar.valid own ≡ true
+    → Answers (suits resumable xs own span) from (fitting resumable xs own span from)
 unfolding fitting
 fitting-answers resumable xs own span from v w = least-answers (suits resumable xs own span) from (lastAll xs own) back
   where
@@ -33,7 +34,8 @@ fitting-answers resumable xs own span from v w = least-answers (suits resumable 
         suits-on resumable xs own span y ∙ suits-on-back resumable (ownShare own ∷ xs) span y calm (sym (suits-on resumable xs own span (suc y)) ∙ h)
 
 -- a start that suits all has an end
-pub has-end : (resumable : Bool) (xs : List Share) (a : Activity) (span s : ℕ) → suits resumable xs (a .calendar) span s ≡ true → (e : ℕ) × (endOf resumable xs (a .calendar) span s ≡ at e)
+pub has-end : (resumable : Bool) (xs : List Share) (a : Activity) (span s : ℕ) → suits resumable xs (a .calendar) span s ≡ true
+    → (e : ℕ) × (endOf resumable xs (a .calendar) span s ≡ at e)
 unfolding suits endOf startsAll freeToEnd
 has-end true xs a span s h = go (jointEnd (calendarsOf xs (a .calendar)) s span) h
   where

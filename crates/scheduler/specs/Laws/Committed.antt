@@ -122,7 +122,8 @@ module _ (start end category : ℕ) where
         };
       }
 
-  pub step-framed : (b : Board) (l : Line) (i : ℕ) → i < length (b .resources) → Framed (resourceAt b i) (resourceAt (changed b (lookup b (l .number)) (booked start end category l)) i)
+  pub step-framed : (b : Board) (l : Line) (i : ℕ) → i < length (b .resources)
+      → Framed (resourceAt b i) (resourceAt (changed b (lookup b (l .number)) (booked start end category l)) i)
   unfolding changed
   step-framed b l i h = go (lookup b (l .number))
     where
@@ -174,7 +175,8 @@ last-right r companion category l h = go (r .matrix .present && not companion)
     go false = h
 
 module _ (start end category : ℕ) (w : Bookable start end category) where
-  booked-right : (l : Line) (r : Resource) → 1 ≤ l .units → l .units ≤ mostUnits → board.resourceRight r ≡ true → r .timeline .len < 64 → board.resourceRight (booked start end category l r) ≡ true
+  booked-right : (l : Line) (r : Resource) → 1 ≤ l .units → l .units ≤ mostUnits → board.resourceRight r ≡ true → r .timeline .len < 64
+      → board.resourceRight (booked start end category l r) ≡ true
   unfolding booked board.resourceRight
   booked-right l r some few h room =
       let k = resource-rules r h in
@@ -236,7 +238,8 @@ module _ (start end category : ℕ) (w : Bookable start end category) where
         let q : onBoard b n ≡ true = ap isAt (sym (lookup-after n)) ∙ o in
         omega (arith, f n q, diary-after n q)
 
-  pub all-keep : (ls : List Line) (b : Board) → length (b .resources) ≡ 16 → board.valid b ≡ true → Each (BookableLine b) ls → Room b ls → board.valid (bookAll start end category ls b) ≡ true
+  pub all-keep : (ls : List Line) (b : Board) → length (b .resources) ≡ 16 → board.valid b ≡ true → Each (BookableLine b) ls → Room b ls
+      → board.valid (bookAll start end category ls b) ≡ true
   unfolding bookAll entriesOn
   all-keep [] b long v each-end f = v
   all-keep (l ∷ ls) b long v (each-on p ps) f =
@@ -286,7 +289,8 @@ room-passed b ls v e n o =
     (lt-or-ge 0 (entriesOn n ls))
 
 -- lines that are not refused can be booked
-pub all-fine : (b : Board) (ls : List Line) (start end category : ℕ) → board.valid b ≡ true → linesRefusal b ls start end category ≡ 0 → Bookable start end category × Each (BookableLine b) ls × Room b ls
+pub all-fine : (b : Board) (ls : List Line) (start end category : ℕ) → board.valid b ≡ true → linesRefusal b ls start end category ≡ 0
+    → Bookable start end category × Each (BookableLine b) ls × Room b ls
 unfolding linesRefusal
 all-fine b ls start end category v e =
     let x0 = unrefused (not (allOn b ls) || ltb 15 category) 4 _ e in

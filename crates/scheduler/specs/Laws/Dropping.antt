@@ -79,7 +79,8 @@ pub data Sub (D : Candidate → Type 0) (R : Candidate → Candidate → Type 0)
   sub-keep : {x y : Candidate} → {xs ys : List Candidate} → R x y → Sub D R xs ys → Sub D R (x ∷ xs) (y ∷ ys)
   sub-drop : {x : Candidate} → {xs ys : List Candidate} → D x → Sub D R xs ys → Sub D R (x ∷ xs) ys
 
-module _ (D : Candidate → Type 0) (R : Candidate → Candidate → Type 0) (starts : (x y : Candidate) → R x y → x .start ≡ y .start) (times : (x y : Candidate) → R x y → x .process ≡ y .process) where
+module _ (D : Candidate → Type 0) (R : Candidate → Candidate → Type 0) (starts : (x y : Candidate) → R x y → x .start ≡ y .start)
+    (times : (x y : Candidate) → R x y → x .process ≡ y .process) where
   same-order : (x y d e : Candidate) → R x y → R d e → comesFirst x d ≡ comesFirst y e
   unfolding sooner
   same-order x y d e p q = rw (starts x y p, times x y p, starts d e q, times d e q) refl

@@ -37,7 +37,8 @@ pub among-cases : (n : ℕ) (xs ys : List ℕ) → among n (xs ++ ys) ≡ true �
 among-cases n xs ys e = or-cases (among n xs) (among n ys) (sym (among-append n xs ys) ∙ e)
 
 -- an event on one of them is one of all
-pub event-among : {A : Type 0} (f : A → ResourceTimeline) (d : A) → events (f d) ≡ [] → (xs : List A) (i x : ℕ) → among x (events (f (getD xs i d))) ≡ true → among x (eventsIn (map f xs)) ≡ true
+pub event-among : {A : Type 0} (f : A → ResourceTimeline) (d : A) → events (f d) ≡ [] → (xs : List A) (i x : ℕ)
+    → among x (events (f (getD xs i d))) ≡ true → among x (eventsIn (map f xs)) ≡ true
 unfolding eventsIn among
 event-among f d z [] i x e = absurd (not-both true refl (sym (rw z at e)))
 event-among f d z (y ∷ ys) zero x e = among-left x (events (f y)) (eventsIn (map f ys)) e
@@ -76,7 +77,8 @@ calm-else (x ∷ xs) y e =
     each-on (still-else (x .timeline) y (or-left (among (suc y) (events (x .timeline))) (among (suc y) (eventsOf xs)) p)) (calm-else xs y (or-right (among (suc y) (events (x .timeline))) (among (suc y) (eventsOf xs)) p))
 
 -- a least instant is the one asked from, or a listed one, where the test holds one earlier too unless one is listed
-pub least-listed : (P : ℕ → Bool) (l : List ℕ) (t s : ℕ) → ((y : ℕ) → t ≤ y → among (suc y) l ≡ false → P (suc y) ≡ true → P y ≡ true) → Earliest P t s → (s ≡ t) ⊎ (among s l ≡ true)
+pub least-listed : (P : ℕ → Bool) (l : List ℕ) (t s : ℕ) → ((y : ℕ) → t ≤ y → among (suc y) l ≡ false → P (suc y) ≡ true → P y ≡ true)
+    → Earliest P t s → (s ≡ t) ⊎ (among s l ≡ true)
 least-listed P l t zero back w = inl (omega (arith, w .low))
 least-listed P l t (suc y) back w = ⊎-elim (λ (h : t < suc y). inr (go (among (suc y) l) refl (omega arith))) (λ (h : suc y ≤ t). inl (omega (arith, w .low))) (lt-or-ge t (suc y))
   where
@@ -110,7 +112,8 @@ unfolding above among
 above-falls [] t s h e = absurd (not-both true refl (sym e))
 above-falls (x ∷ l) t s h e = go (eqb x s) refl (ltb s x) (ltb t x) refl refl e (above-falls l t s h) (above-le l t s (omega arith))
   where
-    go : (k : Bool) → eqb x s ≡ k → (p q : Bool) → ltb s x ≡ p → ltb t x ≡ q → k || among s l ≡ true → (among s l ≡ true → above l s < above l t) → above l s ≤ above l t → cond p 1 0 + above l s < cond q 1 0 + above l t
+    go : (k : Bool) → eqb x s ≡ k → (p q : Bool) → ltb s x ≡ p → ltb t x ≡ q → k || among s l ≡ true → (among s l ≡ true → above l s < above l t)
+        → above l s ≤ above l t → cond p 1 0 + above l s < cond q 1 0 + above l t
     go true k true q e f g r m = absurd (omega (arith, ltb-true s x e, eqb-true x s k))
     go true k false true e f g r m = omega arith
     go true k false false e f g r m = absurd (omega (arith, ltb-false t x f, eqb-true x s k))

@@ -17,7 +17,8 @@ use Rattle.board.specs.Valid as board
 use Rattle.board.specs.Theorems.Meaning.{lookup-is}
 use Rattle.scheduler.specs.Alone.{companionsOf}
 use Rattle.scheduler.specs.Choosing.{sort, Held, heldFor, holdFirst}
-use Rattle.scheduler.specs.Fitting.{numbersOf, durationTogether, heldEntry, heldEntries, among, joinEach, allCompanions, companionEntry, companionEntries, entriesOf, sharesOf}
+use Rattle.scheduler.specs.Fitting.{numbersOf, durationTogether, heldEntry, heldEntries, among, joinEach}
+use Rattle.scheduler.specs.Fitting.{allCompanions, companionEntry, companionEntries, entriesOf, sharesOf}
 use Rattle.scheduler.specs.Plain.{startsThere, candidateAt, startable, heldAt}
 use Rattle.cells.specs.Laws.Each.{each-append, each-take, each-every, each-weaken, each-in-map}
 use Rattle.cells.specs.Laws.Arrays.{each-cells}
@@ -32,12 +33,14 @@ module _ (b : Board) where
     pub companions : every (onBoard b) (companionsOf r) ≡ true
 
   module _ (a : Activity) (ready : ℕ) where
-    startable-whole : (q : ResourceRequirement) (t : ℕ) (rs : List Resource) → Each (λ r. onBoard b (r .number) ≡ true) rs → Each (λ c. Whole (c .resource)) (startable b a ready q t rs)
+    startable-whole : (q : ResourceRequirement) (t : ℕ) (rs : List Resource) → Each (λ r. onBoard b (r .number) ≡ true) rs
+        → Each (λ c. Whole (c .resource)) (startable b a ready q t rs)
     unfolding startable startsThere
     startable-whole q t [] each-end = each-end
     startable-whole q t (r ∷ rs) (each-on o os) = go (startsThere b a ready q r t) refl (startable-whole q t rs os)
       where
-        go : (p : Bool) → startsThere b a ready q r t ≡ p → Each (λ c. Whole (c .resource)) (startable b a ready q t rs) → Each (λ c. Whole (c .resource)) (cond p (candidateAt a t r ∷ startable b a ready q t rs) (startable b a ready q t rs))
+        go : (p : Bool) → startsThere b a ready q r t ≡ p → Each (λ c. Whole (c .resource)) (startable b a ready q t rs)
+            → Each (λ c. Whole (c .resource)) (cond p (candidateAt a t r ∷ startable b a ready q t rs) (startable b a ready q t rs))
         go true e i = each-on (record { itself = o; companions = and-split (every (onBoard b) (companionsOf r)) _ (and-split (serves q (r .number) (r .kind) (r .skills)) _ e .1) .0 }) i
         go false e i = i
 

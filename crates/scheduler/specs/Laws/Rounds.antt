@@ -57,16 +57,19 @@ unfolding behind
 hold-is q cs ks l = rw (le-ltb (length cs) (q .quantity) l) refl
 
 -- what is known of a candidate's start is known of the held one's
-pub each-hold : (P : ℕ → Type 0) (q : ResourceRequirement) (cs : List Candidate) → Each {A = Candidate} (λ c. P (c .start)) cs → Each {A = Held} (λ h. P (h .start)) (holdFirst q cs)
+pub each-hold : (P : ℕ → Type 0) (q : ResourceRequirement) (cs : List Candidate) → Each {A = Candidate} (λ c. P (c .start)) cs
+    → Each {A = Held} (λ h. P (h .start)) (holdFirst q cs)
 unfolding holdFirst
 each-hold P q cs a = each-in-map (λ h. P (h .start)) (heldFor q) (take (q .quantity) cs) (each-take {A = Candidate} (λ c. P (c .start)) (q .quantity) cs a)
 
 -- the first quantity of two lists, where the first list has so many
-each-hold-front : (P : ℕ → Type 0) (q : ResourceRequirement) (xs ys : List Candidate) → q .quantity ≤ length xs → Each {A = Candidate} (λ c. P (c .start)) xs → Each {A = Held} (λ h. P (h .start)) (holdFirst q (xs ++ ys))
+each-hold-front : (P : ℕ → Type 0) (q : ResourceRequirement) (xs ys : List Candidate) → q .quantity ≤ length xs
+    → Each {A = Candidate} (λ c. P (c .start)) xs → Each {A = Held} (λ h. P (h .start)) (holdFirst q (xs ++ ys))
 unfolding holdFirst
 each-hold-front P q xs ys l a = rw (take-append-le (q .quantity) xs ys l) (each-hold P q xs a)
 
-each-held : (P : ℕ → Type 0) (q : ResourceRequirement) (cs : List Candidate) → Each {A = Held} (λ h. P (h .start)) (holdFirst q cs) → Each {A = Candidate} (λ c. P (c .start)) (take (q .quantity) cs)
+each-held : (P : ℕ → Type 0) (q : ResourceRequirement) (cs : List Candidate) → Each {A = Held} (λ h. P (h .start)) (holdFirst q cs)
+    → Each {A = Candidate} (λ c. P (c .start)) (take (q .quantity) cs)
 unfolding holdFirst
 each-held P q cs a = each-of-map (λ h. P (h .start)) (heldFor q) (take (q .quantity) cs) a
 
@@ -122,7 +125,8 @@ module _ (b : Board) (a : Activity) (ready : ℕ) (kept : (q : ResourceRequireme
           ∙ ap (λ l. take (q .quantity) (sort l)) (low-startable b a ready q t (resourcesOf b) (kept q)))
 
   -- and asked from an earlier instant on, it holds some that start by then
-  pub round-upto : (t u : ℕ) → t ≤ u → (qs : List ResourceRequirement) → enough b a ready qs u ≡ true → (hs : List Held) × (round b a ready t qs ≡ holds hs) × Each (λ h. h .start ≤ u) hs
+  pub round-upto : (t u : ℕ) → t ≤ u → (qs : List ResourceRequirement) → enough b a ready qs u ≡ true
+      → (hs : List Held) × (round b a ready t qs ≡ holds hs) × Each (λ h. h .start ≤ u) hs
   unfolding enough round here
   round-upto t u l [] e = ([], refl, each-end)
   round-upto t u l (q ∷ qs) e =

@@ -45,5 +45,6 @@ unfolding earliestOf
 together-answers resumable span xs from v = least-answers (allStart resumable span xs) from (lastOf xs) (λ y l. all-back resumable span xs y (last-calm xs v y l))
 
 -- another answer is the same
-pub together-is : (resumable : Bool) (span : ℕ) (xs : List Share) (from : ℕ) (f : Found) → Sound xs → Answers (allStart resumable span xs) from f → f ≡ earliestOf resumable span xs from
+pub together-is : (resumable : Bool) (span : ℕ) (xs : List Share) (from : ℕ) (f : Found) → Sound xs → Answers (allStart resumable span xs) from f
+    → f ≡ earliestOf resumable span xs from
 together-is resumable span xs from f v w = answers-same (allStart resumable span xs) (allStart resumable span xs) from f (earliestOf resumable span xs from) (λ x l. refl) w (together-answers resumable span xs from v)

@@ -18,7 +18,8 @@ use Rattle.scheduler.specs.Laws.Committed.{step-same, step-number, step-
 
 module _ (start end category : ℕ) where
   -- no entry on it: nothing has changed there
-  pub others-same : (ls : List Line) (b : Board) (i : ℕ) → i < length (b .resources) → entriesOn (numberAt b i) ls ≡ 0 → resourceAt (bookAll start end category ls b) i ≡ resourceAt b i
+  pub others-same : (ls : List Line) (b : Board) (i : ℕ) → i < length (b .resources) → entriesOn (numberAt b i) ls ≡ 0
+      → resourceAt (bookAll start end category ls b) i ≡ resourceAt b i
   unfolding bookAll entriesOn
   others-same [] b i h e = refl
   others-same (l ∷ ls) b i h e = go (eqb (l .number) (numberAt b i)) refl e (others-same ls (changed b (lookup b (l .number)) (booked start end category l)) i)
@@ -27,12 +28,14 @@ module _ (start end category : ℕ) where
       b′ = changed b (lookup b (l .number)) (booked start end category l)
 
       go : (q : Bool) → eqb (l .number) (numberAt b i) ≡ q → cond q 1 0 + entriesOn (numberAt b i) ls ≡ 0
-          → (i < length (b′ .resources) → entriesOn (numberAt b′ i) ls ≡ 0 → resourceAt (bookAll start end category ls b′) i ≡ resourceAt b′ i) → resourceAt (bookAll start end category ls b′) i ≡ resourceAt b i
+          → (i < length (b′ .resources) → entriesOn (numberAt b′ i) ls ≡ 0 → resourceAt (bookAll start end category ls b′) i ≡ resourceAt b′ i)
+          → resourceAt (bookAll start end category ls b′) i ≡ resourceAt b i
       go true f g again = absurd (omega arith)
       go false f g again =
           let ne = eqb-false (l .number) (numberAt b i) f in
           let z : entriesOn (numberAt b i) ls ≡ 0 = omega arith in
-          again (rw (step-long start end category b l (lookup b (l .number))) h) (ap (λ (n : ℕ). entriesOn n ls) (step-number start end category b l i h) ∙ z) ∙ step-same start end category b l i (λ k. ne (sym k))
+          again (rw (step-long start end category b l (lookup b (l .number))) h) (ap (λ (n : ℕ). entriesOn n ls) (step-number start end category b l i h) ∙ z)
+          ∙ step-same start end category b l i (λ k. ne (sym k))
 
   pub frame-len : (ls : List Line) (b : Board) → bookAll start end category ls b .len ≡ b .len
   unfolding bookAll
@@ -66,7 +69,8 @@ module _ (start end category : ℕ) where
       ∙ step-last start end category b l i h (not-true (takesCategory (resourceAt b i) l) (w .0))
 
 -- a committed board keeps the rules
-pub commit-keeps : (b : Board) (slate : List (List ℕ)) (count start end category : ℕ) → length (b .resources) ≡ 16 → board.valid b ≡ true → board.valid (commitReply b slate count start end category .board) ≡ true
+pub commit-keeps : (b : Board) (slate : List (List ℕ)) (count start end category : ℕ) → length (b .resources) ≡ 16 → board.valid b ≡ true
+    → board.valid (commitReply b slate count start end category .board) ≡ true
 unfolding commitReply commitRefusal entered linesOf bookAll
 commit-keeps b slate count start end category long v = go (commitRefusal b slate count start end category) refl
   where
@@ -76,10 +80,13 @@ commit-keeps b slate count start end category long v = go (commitRefusal b slate
     booking : linesRefusal b ls start end category ≡ 0 → board.valid (bookAll start end category ls b) ≡ true
     booking e = let w = all-fine b ls start end category v e in all-keep start end category (w .0) ls b long v (w .1) (w .2)
 
-    counted : (q : Bool) → eqb count 0 ≡ q → cond q 0 (cond (ltb (length slate) count) 7 (linesRefusal b ls start end category)) ≡ 0 → board.valid (bookAll start end category ls b) ≡ true
+    counted : (q : Bool) → eqb count 0 ≡ q → cond q 0 (cond (ltb (length slate) count) 7 (linesRefusal b ls start end category)) ≡ 0
+        → board.valid (bookAll start end category ls b) ≡ true
     counted true f e = rw (eqb-true count 0 f) v
     counted false f e = booking (unrefused (ltb (length slate) count) 6 (linesRefusal b ls start end category) e .1)
 
     go : (n : ℕ) → commitRefusal b slate count start end category ≡ n → board.valid (entered n b (bookAll start end category ls b) .board) ≡ true
-    go zero e = counted (eqb count 0) refl (unrefused (not (board.valid b)) 14 (cond (eqb count 0) 0 (cond (ltb (length slate) count) 7 (linesRefusal b ls start end category))) e .1)
+    go zero e =
+        counted (eqb count 0) refl
+        (unrefused (not (board.valid b)) 14 (cond (eqb count 0) 0 (cond (ltb (length slate) count) 7 (linesRefusal b ls start end category))) e .1)
     go (suc n) e = v

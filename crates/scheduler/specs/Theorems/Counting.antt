@@ -38,7 +38,8 @@ use Rattle.scheduler.specs.Laws.Owning.{own-valid, suitsOn, suits-on}
 use Rattle.scheduler.specs.Laws.Counting.{steps-mean, latest-wider, choices-same}
 
 -- Choosing: any number of rounds above 2,064 gives the choice.
-pub choosing-rounds : (b : Board) → board.valid b ≡ true → (a : Activity) (ready : ℕ) (q : ResourceRequirement) (qs : List ResourceRequirement) → requirementsOf a ≡ q ∷ qs → 1 ≤ q .quantity
+pub choosing-rounds : (b : Board) → board.valid b ≡ true → (a : Activity) (ready : ℕ) (q : ResourceRequirement) (qs : List ResourceRequirement)
+    → requirementsOf a ≡ q ∷ qs → 1 ≤ q .quantity
     → (n : ℕ) → 2064 < n → rounds n b a ready ready ≡ choosing b a ready
 unfolding choosing
 choosing-rounds b v a ready q qs asks some n h =
@@ -52,13 +53,16 @@ choosing-rounds b v a ready q qs asks some n h =
 pub instants-few : (b : Board) → board.valid b ≡ true → (a : Activity) (ready t : ℕ) → above (points b a ready) t ≤ 2064
 instants-few b v a ready t = omega (arith, above-length (points b a ready) t, points-length b v a ready)
 
-pub instants-fall : (b : Board) → board.valid b ≡ true → (a : Activity) (ready : ℕ) (qs : List ResourceRequirement) → requirementsOf a ≡ qs → 1 ≤ length qs → ((i : ℕ) → i < length qs → 1 ≤ getD qs i noRequirement .quantity)
+pub instants-fall : (b : Board) → board.valid b ≡ true → (a : Activity) (ready : ℕ) (qs : List ResourceRequirement) → requirementsOf a ≡ qs
+    → 1 ≤ length qs → ((i : ℕ) → i < length qs → 1 ≤ getD qs i noRequirement .quantity)
     → (t : ℕ) (hs : List Held) → round b a ready t qs ≡ holds hs → (greatestStart hs ≡ t → ⊥) → above (points b a ready) (greatestStart hs) < above (points b a ready) t
 instants-fall b v a ready [] asks l some t hs e ne = absurd (omega arith)
-instants-fall b v a ready (q ∷ qs) asks l some t hs e ne = round-falls b a ready (all-kept b v a ready) (points b a ready) (all-listed b v a ready) q qs asks (some 0 (omega arith)) t hs e ne .1
+instants-fall b v a ready (q ∷ qs) asks l some t hs e ne =
+    round-falls b a ready (all-kept b v a ready) (points b a ready) (all-listed b v a ready) q qs asks (some 0 (omega arith)) t hs e ne .1
 
 -- Companions: any number above 640 gives the least start of a resource with its at most four companions.
-pub companions-rounds : (resumable : Bool) (span : ℕ) (xs : List Share) (from n : ℕ) → Sound xs → length xs ≤ 5 → 640 < n → steps n (latestOf resumable span xs) from ≡ earliestOf resumable span xs from
+pub companions-rounds : (resumable : Bool) (span : ℕ) (xs : List Share) (from n : ℕ) → Sound xs → length xs ≤ 5 → 640 < n
+    → steps n (latestOf resumable span xs) from ≡ earliestOf resumable span xs from
 companions-rounds resumable span xs from n v few h =
     let ts = map (λ x. x .timeline) xs in
     let count : length (eventsIn ts) ≤ 640 = omega (arith, events-count ts (each-in-map (λ t. timeline.valid t ≡ true) (λ x. x .timeline) xs v), length-map xs (λ (x : Share). x .timeline)) in
@@ -90,7 +94,8 @@ module _ (b : Board) (v : board.valid b ≡ true) (own : Calendar) (w : calendar
   closing-length = omega (arith, length-append (events (ownShare own .timeline)) (eventsOn b), own-length, events-board b v)
 
   -- The closing fit of unbroken work: any number above 2,112 gives the least start that suits all.
-  pub closing-rounds : (es : List Entry) → Each (λ e. onBoard b (e .number) ≡ true) es → (span t n : ℕ) → 2112 < n → steps n (latestOf false span (ownShare own ∷ sharesOf b es)) t ≡ fitting false (sharesOf b es) own span t
+  pub closing-rounds : (es : List Entry) → Each (λ e. onBoard b (e .number) ≡ true) es → (span t n : ℕ) → 2112 < n
+      → steps n (latestOf false span (ownShare own ∷ sharesOf b es)) t ≡ fitting false (sharesOf b es) own span t
   unfolding suitsOn eventsIn
   closing-rounds es on span t n h =
       let xs = sharesOf b es in
@@ -102,6 +107,9 @@ module _ (b : Board) (v : board.valid b ≡ true) (own : Calendar) (w : calendar
       (λ (j : among x own-events ≡ true). among-left x own-events (eventsOn b) j)
       (λ (j : among x (eventsOf xs) ≡ true). among-right x own-events (eventsOn b) (seated-events b v xs (entries-seated b v es on) x j))
       (among-cases x own-events (eventsOf xs) k) in
-      answers-same (allStart false span ys) (suits false (xs) own span) t (steps n (latestOf false span ys) t) (fitting false (xs) own span t) (λ x l. sym (suits-on false (xs) own span x))
-      (steps-mean (allStart false span ys) (latestOf false span ys) closingPoints (λ u. latest-wider (allStart false span ys) (eventsOf ys) closingPoints u (latestOf false span ys u) wider (latest-says false span ys u sound)) t n (omega (arith, closing-length)))
+      answers-same (allStart false span ys) (suits false (xs) own span) t (steps n (latestOf false span ys) t) (fitting false (xs) own span t)
+      (λ x l. sym (suits-on false (xs) own span x))
+      (steps-mean (allStart false span ys) (latestOf false span ys) closingPoints
+      (λ u. latest-wider (allStart false span ys) (eventsOf ys) closingPoints u (latestOf false span ys u) wider (latest-says false span ys u sound))
+      t n (omega (arith, closing-length)))
       (fitting-answers false (xs) own span t (entries-valid b v es on) w)

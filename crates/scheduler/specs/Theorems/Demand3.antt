@@ -25,7 +25,8 @@ use Rattle.scheduler.specs.Laws.AlikePlacing.{isPlaced, not-placed, plac
 -- Two boards alike but for extra bookings on the second, one order, one ready time, and two slates, both under 24 entries or neither.
 pub record Demand3 (b c : Board) (a : Activity) (ready : ℕ) (slate other : List (List ℕ)) : Type 0 where
   -- where the first gives a placement and no extra is on a resource it reports, the placement comes out identical on the second ..
-  pub same-placement : (t s e : ℕ) (es : List Entry) → placeReply b a ready (length slate) ≡ placed t s e es → Each (λ x. NoExtra b c (x .number)) es → placeReply c a ready (length other) ≡ placed t s e es
+  pub same-placement : (t s e : ℕ) (es : List Entry) → placeReply b a ready (length slate) ≡ placed t s e es → Each (λ x. NoExtra b c (x .number)) es
+      → placeReply c a ready (length other) ≡ placed t s e es
   -- .. and so do the rows of the slate that it writes
   pub same-rows : (t s e : ℕ) (es : List Entry) → placeReply b a ready (length slate) ≡ placed t s e es → Each (λ x. NoExtra b c (x .number)) es
       → take (length es) (slateAfter (placeReply c a ready (length other)) other) ≡ take (length es) (slateAfter (placeReply b a ready (length slate)) slate)
@@ -41,21 +42,31 @@ module _ (b c : Board) (k : Alike b c) (a : Activity) (ready : ℕ) (slate other
 
   lawful : placeRefusal c a ready (length other) ≡ 0 → activityRefusal a ready ≡ 0
   unfolding placeRefusal
-  lawful e = unrefused (ltb (length other) 24) 6 (activityRefusal a ready) (unrefused (not (board.valid c) || not (calendar.valid (a .calendar))) 14 (cond (ltb (length other) 24) 7 (activityRefusal a ready)) e .1) .1
+  lawful e =
+      unrefused (ltb (length other) 24) 6 (activityRefusal a ready)
+      (unrefused (not (board.valid c) || not (calendar.valid (a .calendar))) 14 (cond (ltb (length other) 24) 7 (activityRefusal a ready)) e .1) .1
 
-  identical : (t s e : ℕ) (es : List Entry) → placeReply b a ready (length slate) ≡ placed t s e es → Each (λ x. NoExtra b c (x .number)) es → placeReply c a ready (length other) ≡ placed t s e es
+  identical : (t s e : ℕ) (es : List Entry) → placeReply b a ready (length slate) ≡ placed t s e es → Each (λ x. NoExtra b c (x .number)) es
+      → placeReply c a ready (length other) ≡ placed t s e es
   unfolding placeReply refusedOr isPlaced
-  identical t s e es h z = go (placeRefusal c a ready (length other)) refl (subst (λ (n : ℕ). refusedOr refused n (placing b a (readyOf (a .release) ready)) ≡ placed t s e es) refusals h)
+  identical t s e es h z =
+      go (placeRefusal c a ready (length other)) refl
+      (subst (λ (n : ℕ). refusedOr refused n (placing b a (readyOf (a .release) ready)) ≡ placed t s e es) refusals h)
     where
-      go : (n : ℕ) → placeRefusal c a ready (length other) ≡ n → refusedOr refused n (placing b a (readyOf (a .release) ready)) ≡ placed t s e es → refusedOr refused n (placing c a (readyOf (a .release) ready)) ≡ placed t s e es
+      go : (n : ℕ) → placeRefusal c a ready (length other) ≡ n → refusedOr refused n (placing b a (readyOf (a .release) ready)) ≡ placed t s e es
+          → refusedOr refused n (placing c a (readyOf (a .release) ready)) ≡ placed t s e es
       go zero f g = placing-same b c k a (readyOf (a .release) ready) ready (lawful f) t s e es g z
       go (suc n) f g = not-placed (refused (suc n)) refl t s e es g
 
   never : (u : ℕ) → choosingInstant (placeReply c a ready (length other)) ≡ at u → (t : ℕ) × (choosingInstant (placeReply b a ready (length slate)) ≡ at t) × (t ≤ u)
   unfolding placeReply refusedOr choosingInstant
-  never u h = subst (λ (n : ℕ). (t : ℕ) × (choosingInstant (refusedOr refused n (placing b a (readyOf (a .release) ready))) ≡ at t) × (t ≤ u)) (sym refusals) (go (placeRefusal c a ready (length other)) refl h)
+  never u h =
+      subst (λ (n : ℕ). (t : ℕ) × (choosingInstant (refusedOr refused n (placing b a (readyOf (a .release) ready))) ≡ at t) × (t ≤ u)) (sym refusals)
+      (go (placeRefusal c a ready (length other)) refl h)
     where
-      go : (n : ℕ) → placeRefusal c a ready (length other) ≡ n → choosingInstant (refusedOr refused n (placing c a (readyOf (a .release) ready))) ≡ at u → (t : ℕ) × (choosingInstant (refusedOr refused n (placing b a (readyOf (a .release) ready))) ≡ at t) × (t ≤ u)
+      go : (n : ℕ) → placeRefusal c a ready (length other) ≡ n
+          → choosingInstant (refusedOr refused n (placing c a (readyOf (a .release) ready))) ≡ at u
+          → (t : ℕ) × (choosingInstant (refusedOr refused n (placing b a (readyOf (a .release) ready))) ≡ at t) × (t ≤ u)
       go zero f g = placing-later b c k a (readyOf (a .release) ready) ready (lawful f) u g
       go (suc n) f g = absurd (not-at u g)
 

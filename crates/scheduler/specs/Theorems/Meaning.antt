@@ -33,11 +33,13 @@ use Rattle.scheduler.specs.Laws.Reported.{held-at-whole, entries-sound}
 -- The choice on a board that keeps the rules: the choosing instant is the least instant from ready on at which every requirement has its
 -- quantity of resources that can start at that instant itself, and held are the first of those by process, then board order; there is
 -- no choice only if there is no such instant, however late.
-pub choosing-means : (b : Board) → board.valid b ≡ true → (a : Activity) (ready : ℕ) (q : ResourceRequirement) (qs : List ResourceRequirement) → requirementsOf a ≡ q ∷ qs → 1 ≤ q .quantity
+pub choosing-means : (b : Board) → board.valid b ≡ true → (a : Activity) (ready : ℕ) (q : ResourceRequirement) (qs : List ResourceRequirement)
+    → requirementsOf a ≡ q ∷ qs → 1 ≤ q .quantity
     → Chooses (enough b a ready (q ∷ qs)) (heldAt b a ready (q ∷ qs)) ready (choosing b a ready)
 unfolding choosing
 choosing-means b v a ready q qs asks some =
-    rounds-mean b a ready (all-kept b v a ready) (points b a ready) (all-listed b v a ready) q qs asks some 10000 (omega (arith, above-length (points b a ready) ready, points-length b v a ready))
+    rounds-mean b a ready (all-kept b v a ready) (points b a ready) (all-listed b v a ready) q qs asks some 10000
+    (omega (arith, above-length (points b a ready) ready, points-length b v a ready))
 
 -- What the closing fit of some entries amounts to.
 pub record Fitted (b : Board) (a : Activity) (span t s e : ℕ) (es : List Entry) : Type 0 where
@@ -54,12 +56,15 @@ module _ (b : Board) (a : Activity) (span t : ℕ) (es : List Entry) (sound : So
   answers = fitting-answers (a .resumable) (sharesOf b es) (a .calendar) span t sound own
 
   -- either a placement with such a start and end, or 'chosen, none' because nothing suits from there on
-  pub fitted-means : ((s : ℕ) × (e : ℕ) × (fitted b a span t es ≡ placed t s e es) × Fitted b a span t s e es) ⊎ ((fitted b a span t es ≡ chosenNone t) × ((x : ℕ) → t ≤ x → suits (a .resumable) (sharesOf b es) (a .calendar) span x ≡ false))
+  pub fitted-means :
+      ((s : ℕ) × (e : ℕ) × (fitted b a span t es ≡ placed t s e es) × Fitted b a span t s e es)
+      ⊎ ((fitted b a span t es ≡ chosenNone t) × ((x : ℕ) → t ≤ x → suits (a .resumable) (sharesOf b es) (a .calendar) span x ≡ false))
   unfolding fitted started ended
   fitted-means = go fits refl answers
     where
       go : (f : Found) → fits ≡ f → Answers (suits (a .resumable) (sharesOf b es) (a .calendar) span) t f
-          → ((s : ℕ) × (e : ℕ) × (fitted b a span t es ≡ placed t s e es) × Fitted b a span t s e es) ⊎ ((fitted b a span t es ≡ chosenNone t) × ((x : ℕ) → t ≤ x → suits (a .resumable) (sharesOf b es) (a .calendar) span x ≡ false))
+          → ((s : ℕ) × (e : ℕ) × (fitted b a span t es ≡ placed t s e es) × Fitted b a span t s e es)
+          ⊎ ((fitted b a span t es ≡ chosenNone t) × ((x : ℕ) → t ≤ x → suits (a .resumable) (sharesOf b es) (a .calendar) span x ≡ false))
       go nothing e w = inr (ap (started (a .resumable) (sharesOf b es) a span t es) e, w)
       go (at s) e w =
           let k = has-end (a .resumable) (sharesOf b es) a span s (w .holds) in
@@ -78,12 +83,14 @@ pub data Placing (b : Board) (a : Activity) (ready : ℕ) (qs : List ResourceReq
       → Fitted b a (spanTogether a (heldAt b a ready qs t)) t s e (entriesOf a (heldAt b a ready qs t))
       → Placing b a ready qs (placed t s e (entriesOf a (heldAt b a ready qs t)))
 
-pub placing-means : (b : Board) → board.valid b ≡ true → (a : Activity) → calendar.valid (a .calendar) ≡ true → (ready from : ℕ) → activityRefusal a from ≡ 0 → (q : ResourceRequirement) (qs : List ResourceRequirement) → requirementsOf a ≡ q ∷ qs
+pub placing-means : (b : Board) → board.valid b ≡ true → (a : Activity) → calendar.valid (a .calendar) ≡ true → (ready from : ℕ)
+    → activityRefusal a from ≡ 0 → (q : ResourceRequirement) (qs : List ResourceRequirement) → requirementsOf a ≡ q ∷ qs
     → Placing b a ready (q ∷ qs) (placing b a ready)
 unfolding placing byRequirements fitChosen
 placing-means b v a own ready from lawful q qs asks = rw asks (go (choosing b a ready) (choosing-means b v a ready q qs asks (some-of-each a from q qs asks lawful)))
   where
-    held : (t : ℕ) → Earliest (enough b a ready (q ∷ qs)) ready t → Placing b a ready (q ∷ qs) (fitted b a (spanTogether a (heldAt b a ready (q ∷ qs) t)) t (entriesOf a (heldAt b a ready (q ∷ qs) t)))
+    held : (t : ℕ) → Earliest (enough b a ready (q ∷ qs)) ready t
+        → Placing b a ready (q ∷ qs) (fitted b a (spanTogether a (heldAt b a ready (q ∷ qs) t)) t (entriesOf a (heldAt b a ready (q ∷ qs) t)))
     held t w =
         let hs = heldAt b a ready (q ∷ qs) t in
         ⊎-elim

@@ -50,8 +50,26 @@ alike = record {
 }
   where
     each : (i : ℕ) → i < 2 → AlikeResource (resources.resourceAt first i) (resources.resourceAt second i)
-    each zero l = record { number-same = refl; kind-same = refl; skills-same = refl; companions-same = refl; count-same = refl; matrix-same = refl; last-same = refl; diary-alike = record { capacity-same = refl; calendar-same = refl; more = booked-more } }
-    each (suc zero) l = record { number-same = refl; kind-same = refl; skills-same = refl; companions-same = refl; count-same = refl; matrix-same = refl; last-same = refl; diary-alike = same-alike free1 }
+    each zero l = record {
+      number-same = refl;
+      kind-same = refl;
+      skills-same = refl;
+      companions-same = refl;
+      count-same = refl;
+      matrix-same = refl;
+      last-same = refl;
+      diary-alike = record { capacity-same = refl; calendar-same = refl; more = booked-more };
+    }
+    each (suc zero) l = record {
+      number-same = refl;
+      kind-same = refl;
+      skills-same = refl;
+      companions-same = refl;
+      count-same = refl;
+      matrix-same = refl;
+      last-same = refl;
+      diary-alike = same-alike free1;
+    }
     each (suc (suc i)) l = absurd (omega arith)
 
 -- no extra is on the resource that the placement reports

@@ -86,7 +86,8 @@ pub bookings-diary : (capacity : ℕ) (c : Calendar) (bs : List Booking) → boo
 unfolding diary
 bookings-diary capacity c bs = rows bs (length bs) (omega arith) ∙ take-all (length bs) bs (omega arith)
 
-pub diary-keeps : (capacity : ℕ) (c : Calendar) (bs : List Booking) → calendar.valid c ≡ true → 1 ≤ capacity → capacity < 2 ^ 31 → length bs ≤ 64 → InOrder 0 bs → valid (diary capacity c bs) ≡ true
+pub diary-keeps : (capacity : ℕ) (c : Calendar) (bs : List Booking) → calendar.valid c ≡ true → 1 ≤ capacity → capacity < 2 ^ 31 → length bs ≤ 64
+    → InOrder 0 bs → valid (diary capacity c bs) ≡ true
 unfolding diary
 diary-keeps capacity c bs v some few room o =
     ruled (diary capacity c bs)
@@ -119,7 +120,8 @@ unfolding insertBooking
 insert-order ps b [] r order-end = order-on r order-end
 insert-order ps b (x ∷ bs) r (order-on q o) = go (leb (x .start) (b .start)) refl (insert-order (x .start) b bs)
   where
-    go : (k : Bool) → leb (x .start) (b .start) ≡ k → (InRange (x .start) b → InOrder (x .start) bs → InOrder (x .start) (insertBooking b bs)) → InOrder ps (cond k (x ∷ insertBooking b bs) (b ∷ x ∷ bs))
+    go : (k : Bool) → leb (x .start) (b .start) ≡ k → (InRange (x .start) b → InOrder (x .start) bs → InOrder (x .start) (insertBooking b bs))
+        → InOrder ps (cond k (x ∷ insertBooking b bs) (b ∷ x ∷ bs))
     go true e f = order-on q (f (record { order = r .order; range = r .range; some = r .some; few = r .few; sorted = leb-true (x .start) (b .start) e }) o)
     go false e f =
         let l = leb-false (x .start) (b .start) e in
@@ -159,7 +161,8 @@ bookings-order t v = by-index (bookings t) 0 one
         rw (booking-at t (suc i) h, e) (record { order = f .order; range = f .range; some = f .some; few = f .few; sorted = f .sorted })
 
 -- booking keeps a diary that keeps the rules
-pub booked-keeps : (t : ResourceTimeline) (b : Booking) → valid t ≡ true → t .len < 64 → InRange 0 b → valid (diary (t .capacity) (t .calendar) (insertBooking b (bookings t))) ≡ true
+pub booked-keeps : (t : ResourceTimeline) (b : Booking) → valid t ≡ true → t .len < 64 → InRange 0 b
+    → valid (diary (t .capacity) (t .calendar) (insertBooking b (bookings t))) ≡ true
 booked-keeps t b v l r =
     let k = rules t v in
     diary-keeps (t .capacity) (t .calendar) (insertBooking b (bookings t)) (k .calendar) (k .some) (k .few) (omega (arith, length-inserted b (bookings t), count t)) (insert-order 0 b (bookings t) r (bookings-order t v))

@@ -33,7 +33,8 @@ use Rattle.timeline.specs.Laws.Rows.{none, count, booking-at}
 use Rattle.timeline.specs.Laws.Loading.{load-le, Free, free-yes, free-facts}
 
 -- free one later and up to a later end, and no booking ends there: free already
-free-back : (cap : ℕ) (bs : List Booking) (u x e e′ : ℕ) → e ≤ e′ → ((k : ℕ) → k < length bs → getD bs k none .end ≡ suc x → ⊥) → free cap bs u (suc x) e′ ≡ true → free cap bs u x e ≡ true
+free-back : (cap : ℕ) (bs : List Booking) (u x e e′ : ℕ) → e ≤ e′ → ((k : ℕ) → k < length bs → getD bs k none .end ≡ suc x → ⊥)
+    → free cap bs u (suc x) e′ ≡ true → free cap bs u x e ≡ true
 free-back cap bs u x e e′ m f h =
     let g = free-facts cap bs u (suc x) e′ h in
     free-yes cap bs u x e

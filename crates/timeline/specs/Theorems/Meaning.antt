@@ -49,7 +49,8 @@ starts-fits t work u s a b =
     rw (straight (t .calendar) s work a b, fits-is (t .calendar) s (s + work) (record { window = inl a; blocks = λ k l. absurd (omega arith) })) refl
 
 -- .. and `earliest_resumable` is the same as `earliest_fit`
-pub no-calendar : (t : ResourceTimeline) (from work u : ℕ) → t .calendar .windows .len ≡ 0 → t .calendar .blocks .len ≡ 0 → earliestResumable t from work u ≡ earliestFit t from work u
+pub no-calendar : (t : ResourceTimeline) (from work u : ℕ) → t .calendar .windows .len ≡ 0 → t .calendar .blocks .len ≡ 0
+    → earliestResumable t from work u ≡ earliestFit t from work u
 unfolding earliestResumable earliestFit
 no-calendar t from work u a b = ap (λ (P : ℕ → Bool). leastFrom P from (suc (lastEvent t - from))) (fun-ext (λ s. starts-fits t work u s a b))
 

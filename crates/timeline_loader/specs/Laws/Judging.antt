@@ -91,7 +91,8 @@ unfolding withSpan
 grown-len c true w = refl
 grown-len c false w = refl
 
-grown-spans : (c : Calendar) (block : Bool) (w : TimeWindow) → WholeArrays (listOf block c) → listOf block c .len < 32 → spans (listOf block (grown block c w)) ≡ spans (listOf block c) ++ (spanOf w ∷ [])
+grown-spans : (c : Calendar) (block : Bool) (w : TimeWindow) → WholeArrays (listOf block c) → listOf block c .len < 32
+    → spans (listOf block (grown block c w)) ≡ spans (listOf block c) ++ (spanOf w ∷ [])
 grown-spans c block w h l =
     ap (λ (m : TimeWindows). spans m) (grown-list c block w)
     ∙ span-added (listOf block c) (w .start) (w .end) (omega (arith, h .starts)) (omega (arith, h .ends))
@@ -102,12 +103,14 @@ grown-ruled c false w h v g l = valid-join _ (span-right (c .windows) (w .start)
 
 -- ---- the records one after another
 -- a good record, and a bad one
-pub judged-good : (c : Calendar) (block : Bool) (k : Calendar) (w : TimeWindow) (ws : List TimeWindow) → addOne k block w .refusal ≡ 0 → judged c block k (w ∷ ws) ≡ judged c block (grown block k w) ws
+pub judged-good : (c : Calendar) (block : Bool) (k : Calendar) (w : TimeWindow) (ws : List TimeWindow) → addOne k block w .refusal ≡ 0
+    → judged c block k (w ∷ ws) ≡ judged c block (grown block k w) ws
 unfolding judged
 judged-good c block k w ws e =
     rw (judged, eq-eqb (addOne k block w .refusal) 0 e) (ap (λ (a : Added). judged c block (a .calendar) ws) (one-new k block w e))
 
-pub judged-bad : (c : Calendar) (block : Bool) (k : Calendar) (w : TimeWindow) (ws : List TimeWindow) → (addOne k block w .refusal ≡ 0 → ⊥) → judged c block k (w ∷ ws) ≡ reply (addOne k block w .refusal) c
+pub judged-bad : (c : Calendar) (block : Bool) (k : Calendar) (w : TimeWindow) (ws : List TimeWindow) → (addOne k block w .refusal ≡ 0 → ⊥)
+    → judged c block k (w ∷ ws) ≡ reply (addOne k block w .refusal) c
 unfolding judged
 judged-bad c block k w ws h = rw (judged, ne-eqb (addOne k block w .refusal) 0 h) refl
 
@@ -119,7 +122,8 @@ by-record k block w P good bad = go (eqb (addOne k block w .refusal) 0) refl
     go true e = good (eqb-true (addOne k block w .refusal) 0 e)
     go false e = bad (eqb-false (addOne k block w .refusal) 0 e)
 
-pub judged-accepted : (c : Calendar) (block : Bool) (k : Calendar) (ws : List TimeWindow) → valid k ≡ true → WholeArrays (listOf block k) → listOf block k .len ≤ 32 → judged c block k ws .refusal ≡ 0 → TakenWhole k block ws (judged c block k ws .calendar)
+pub judged-accepted : (c : Calendar) (block : Bool) (k : Calendar) (ws : List TimeWindow) → valid k ≡ true → WholeArrays (listOf block k)
+    → listOf block k .len ≤ 32 → judged c block k ws .refusal ≡ 0 → TakenWhole k block ws (judged c block k ws .calendar)
 unfolding judged
 judged-accepted c block k [] v h m e = record { good = tt; room = omega arith; list = sym (append-nil (spans (listOf block k))); other = refl; ruled = v }
 judged-accepted c block k (w ∷ ws) v h m e =
@@ -139,7 +143,8 @@ judged-accepted c block k (w ∷ ws) v h m e =
     }))
     (λ z. absurd (z (sym (ap (λ (a : Added). a .refusal) (judged-bad c block k w ws z)) ∙ e)))
 
-pub judged-all : (c : Calendar) (block : Bool) (k : Calendar) (ws : List TimeWindow) → valid k ≡ true → WholeArrays (listOf block k) → AllGood ws → listOf block k .len + length ws ≤ 32 → judged c block k ws .refusal ≡ 0
+pub judged-all : (c : Calendar) (block : Bool) (k : Calendar) (ws : List TimeWindow) → valid k ≡ true → WholeArrays (listOf block k) → AllGood ws
+    → listOf block k .len + length ws ≤ 32 → judged c block k ws .refusal ≡ 0
 unfolding judged
 judged-all c block k [] v h g m = refl
 judged-all c block k (w ∷ ws) v h g m =
@@ -157,7 +162,8 @@ judged-refused c block k (w ∷ ws) h =
     ap (λ (a : Added). a .calendar) j ∙ judged-refused c block (grown block k w) ws (λ y. h (ap (λ (a : Added). a .refusal) j ∙ y)))
     (λ z. ap (λ (a : Added). a .calendar) (judged-bad c block k w ws z))
 
-pub judged-first : (c : Calendar) (block : Bool) (k m : Calendar) (ws : List TimeWindow) (w : TimeWindow) (vs : List TimeWindow) → judged c block k ws ≡ reply 0 m → (addOne m block w .refusal ≡ 0 → ⊥) → judged c block k (ws ++ (w ∷ vs)) ≡ reply (addOne m block w .refusal) c
+pub judged-first : (c : Calendar) (block : Bool) (k m : Calendar) (ws : List TimeWindow) (w : TimeWindow) (vs : List TimeWindow)
+    → judged c block k ws ≡ reply 0 m → (addOne m block w .refusal ≡ 0 → ⊥) → judged c block k (ws ++ (w ∷ vs)) ≡ reply (addOne m block w .refusal) c
 unfolding judged
 judged-first c block k m [] w vs e h =
     let q : k ≡ m = ap (λ (a : Added). a .calendar) e in

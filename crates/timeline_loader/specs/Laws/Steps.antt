@@ -40,7 +40,8 @@ onward-step c block a w ws = go (eqb (a .refusal) 0) refl
     one = addOne (a .calendar) block w
 
     took : (z : Bool) → eqb (one .refusal) 0 ≡ z
-        → onward c block (elim z [ true ↦ reply 0 (one .calendar) | false ↦ reply (one .refusal) c ]) ws ≡ elim z [ true ↦ judged c block (one .calendar) ws | false ↦ reply (one .refusal) c ]
+        → onward c block (elim z [ true ↦ reply 0 (one .calendar) | false ↦ reply (one .refusal) c ]) ws
+        ≡ elim z [ true ↦ judged c block (one .calendar) ws | false ↦ reply (one .refusal) c ]
     took true e = refl
     took false e = rw (onward, e) refl
 
@@ -59,13 +60,15 @@ unfolding begunReply
 begun-ruled c v = rw (begunReply, v) refl
 
 -- the record is bad, or good
-pub step-refused : (c : Calendar) (block : Bool) (a : Added) (w : TimeWindow) (r : Added) → a .refusal ≡ 0 → r ≡ addOne (a .calendar) block w → (r .refusal ≡ 0 → ⊥) → reply (r .refusal) c ≡ stepReply c block a w
+pub step-refused : (c : Calendar) (block : Bool) (a : Added) (w : TimeWindow) (r : Added) → a .refusal ≡ 0 → r ≡ addOne (a .calendar) block w
+    → (r .refusal ≡ 0 → ⊥) → reply (r .refusal) c ≡ stepReply c block a w
 unfolding onward judged stepReply
 step-refused c block a w r z e =
     subst (λ (x : Added). (x .refusal ≡ 0 → ⊥) → reply (x .refusal) c ≡ stepReply c block a w) (sym e)
     (λ h. rw (stepReply, onward, eq-eqb (a .refusal) 0 z, judged, ne-eqb (addOne (a .calendar) block w .refusal) 0 h) refl)
 
-pub step-taken : (c : Calendar) (block : Bool) (a : Added) (w : TimeWindow) (r : Added) → a .refusal ≡ 0 → r ≡ addOne (a .calendar) block w → r .refusal ≡ 0 → r ≡ stepReply c block a w
+pub step-taken : (c : Calendar) (block : Bool) (a : Added) (w : TimeWindow) (r : Added) → a .refusal ≡ 0 → r ≡ addOne (a .calendar) block w
+    → r .refusal ≡ 0 → r ≡ stepReply c block a w
 unfolding onward judged stepReply
 step-taken c block a w r z e =
     subst (λ (x : Added). x .refusal ≡ 0 → x ≡ stepReply c block a w) (sym e)

@@ -46,7 +46,8 @@ timeline-refused t block ws h = go (valid t) refl
         let j = reply-ruled t a q in
         ap (λ (b : Booked). b .timeline) j ∙ ap (withCalendar t) (run-refused (t .calendar) block ws (λ z. h (ap (λ (b : Booked). b .refusal) j ∙ z)))
 
-pub timeline-accepted : (t : ResourceTimeline) (block : Bool) (ws : List TimeWindow) → WholeArrays (listOf block (t .calendar)) → addTimelineRun t block ws .refusal ≡ 0 → TakenByDiary t block ws (addTimelineRun t block ws .timeline)
+pub timeline-accepted : (t : ResourceTimeline) (block : Bool) (ws : List TimeWindow) → WholeArrays (listOf block (t .calendar))
+    → addTimelineRun t block ws .refusal ≡ 0 → TakenByDiary t block ws (addTimelineRun t block ws .timeline)
 unfolding addTimelineRun withCalendar
 timeline-accepted t block ws h e = go (valid t) refl
   where

@@ -17,7 +17,8 @@ use Rattle.calendar.specs.Laws.Adding.{taken, refuse-15, refuse-4}
 use Rattle.timeline_loader.specs.declared.TimeWindow.{TimeWindow}
 use Rattle.timeline_loader.specs.Run.{reply, addOne, judged, addRun}
 use Rattle.timeline_loader.specs.Plain.{listOf, spanOf, Good, AllGood, WholeArrays, TakenWhole}
-use Rattle.timeline_loader.specs.Laws.Judging.{refusal, one-number, one-new, one-old, judged-good, judged-bad, by-record, judged-accepted, judged-all, judged-refused, judged-first}
+use Rattle.timeline_loader.specs.Laws.Judging.{refusal, one-number, one-new, one-old}
+use Rattle.timeline_loader.specs.Laws.Judging.{judged-good, judged-bad, by-record, judged-accepted, judged-all, judged-refused, judged-first}
 
 -- ---- a run
 -- 15 for a calendar that breaks the rules, whatever the run
@@ -66,7 +67,8 @@ run-refused c block ws h = go (valid c) refl
         ap (λ (a : Added). a .calendar) j ∙ judged-refused c block c ws (λ y. h (ap (λ (a : Added). a .refusal) j ∙ y))
 
 -- a run that is taken is taken whole ..
-pub run-accepted : (c : Calendar) (block : Bool) (ws : List TimeWindow) → WholeArrays (listOf block c) → addRun c block ws .refusal ≡ 0 → TakenWhole c block ws (addRun c block ws .calendar)
+pub run-accepted : (c : Calendar) (block : Bool) (ws : List TimeWindow) → WholeArrays (listOf block c) → addRun c block ws .refusal ≡ 0
+    → TakenWhole c block ws (addRun c block ws .calendar)
 run-accepted c block ws h e =
     let v = run-ruled c block ws e in
     let j = run-judged c block ws v in
@@ -77,18 +79,21 @@ run-accepted c block ws h e =
     few c false v = right (c .windows) (windows-right c v) .few
 
 -- .. and it is taken if the calendar keeps the rules, its records are good and there is room for them
-pub run-all : (c : Calendar) (block : Bool) (ws : List TimeWindow) → WholeArrays (listOf block c) → valid c ≡ true → AllGood ws → listOf block c .len + length ws ≤ 32 → addRun c block ws .refusal ≡ 0
+pub run-all : (c : Calendar) (block : Bool) (ws : List TimeWindow) → WholeArrays (listOf block c) → valid c ≡ true → AllGood ws
+    → listOf block c .len + length ws ≤ 32 → addRun c block ws .refusal ≡ 0
 run-all c block ws h v g m = ap (λ (a : Added). a .refusal) (run-judged c block ws v) ∙ judged-all c block c ws v h g m
 
 -- the number is that of the first bad record w: those before it are taken, by m, and those after it are not looked at
-pub run-first : (c : Calendar) (block : Bool) (m : Calendar) (ws : List TimeWindow) (w : TimeWindow) (vs : List TimeWindow) → addRun c block ws ≡ reply 0 m → (addOne m block w .refusal ≡ 0 → ⊥)
+pub run-first : (c : Calendar) (block : Bool) (m : Calendar) (ws : List TimeWindow) (w : TimeWindow) (vs : List TimeWindow)
+    → addRun c block ws ≡ reply 0 m → (addOne m block w .refusal ≡ 0 → ⊥)
     → addRun c block (ws ++ (w ∷ vs)) ≡ reply (addOne m block w .refusal) c
 run-first c block m ws w vs e h =
     let v = run-ruled c block ws (ap (λ (a : Added). a .refusal) e) in
     run-judged c block (ws ++ (w ∷ vs)) v ∙ judged-first c block c m ws w vs (sym (run-judged c block ws v) ∙ e) h
 
 -- 4 falls on the record that would be a 33rd, where it and those before it are good, whatever follows
-pub run-33rd : (c : Calendar) (block : Bool) (ws : List TimeWindow) (w : TimeWindow) (vs : List TimeWindow) → WholeArrays (listOf block c) → valid c ≡ true → AllGood ws → Good w → listOf block c .len + length ws ≡ 32
+pub run-33rd : (c : Calendar) (block : Bool) (ws : List TimeWindow) (w : TimeWindow) (vs : List TimeWindow) → WholeArrays (listOf block c)
+    → valid c ≡ true → AllGood ws → Good w → listOf block c .len + length ws ≡ 32
     → addRun c block (ws ++ (w ∷ vs)) ≡ reply 4 c
 run-33rd c block ws w vs h v g good full =
     let m = addRun c block ws .calendar in
