@@ -244,7 +244,8 @@ none-or-wins (t ∷ ts) = go t (none-or-wins ts)
     at-most d w k x e =
         ⊎-elim
         (λ (l : k < w .place). omega (arith, w .earlier k x l e))
-        (λ (l : w .place ≤ k). ⊎-elim (λ (q : w .place ≡ k). omega (arith, ap total (same-duration x d (sym e ∙ rw (← q) (w .own))))) (λ (m : w .place < k). w .later k x m e) (eq-or-lt-of-le l))
+        (λ (l : w .place ≤ k). ⊎-elim (λ (q : w .place ≡ k). omega (arith, ap total (same-duration x d (sym e ∙ rw (← q) (w .own)))))
+        (λ (m : w .place < k). w .later k x m e) (eq-or-lt-of-le l))
         (lt-or-ge k (w .place))
 
     quiet : (t : ResourceTiming) → ((x : ActivityDuration) → t ≡ Duration x → ⊥) → None ts → None (t ∷ ts)

@@ -91,7 +91,8 @@ changed-keeps b number g long v f = go (lookup b number) refl
 
 -- a board with no resource keeps the rules
 blank-right : resourceBlank blankResource ≡ true
-unfolding resourceBlank companionsRight diaryBlank calendarBlank calendar.valid calendar.spansRight calendar.cellRight empty timeline.cellEmpty matrixRight isZero lastBlank everyFrom
+unfolding resourceBlank companionsRight diaryBlank calendarBlank calendar.valid calendar.spansRight calendar.cellRight empty
+    timeline.cellEmpty matrixRight isZero lastBlank everyFrom
 blank-right = refl
 
 pub new-keeps : valid emptyBoard ≡ true

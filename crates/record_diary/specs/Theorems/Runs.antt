@@ -35,5 +35,8 @@ pub example : slot
     ((4 ∷ (low 7 100 ++ (low 7 200 ++ low 3 1)))
     ++ ((5 ∷ (low 7 50 ++ (low 7 50 ++ low 3 1))) ++ (5 ∷ (low 7 50 ++ (low 7 51 ++ low 3 1)))))
     ≡ 102 ∷ 105 ∷ 116 ∷ 32 ∷ 53 ∷ 48 ∷ 32 ∷ 49 ∷ 48 ∷ 48 ∷ 10 ∷ 102 ∷ 105 ∷ 116 ∷ 32 ∷ 50 ∷ 48 ∷ 48 ∷ 32 ∷ 50 ∷ 53 ∷ 49 ∷ 10 ∷ []
-unfolding leastFrom spansFrom any holds meets calendar.cellRight everyFrom calendar.spansRight calendar.valid openFor fits latest lastChange empty bookingsTo total latestEnd before cellRight cellEmpty valid overlaps onAt tally load free fitsAt lastEvent earliestFit capacityOf insertBooking latestEnds diary bookRefusal taken bookReply unbroken askRefusal refusedOr asked little decimalTo textOf diaryLen books asks recordDoes turnReply goOn streamFrom slot greatestOf
+unfolding leastFrom spansFrom any holds meets calendar.cellRight everyFrom calendar.spansRight calendar.valid openFor fits latest lastChange
+    empty bookingsTo total latestEnd before cellRight cellEmpty valid overlaps onAt tally load free fitsAt lastEvent earliestFit capacityOf
+    insertBooking latestEnds diary bookRefusal taken bookReply unbroken askRefusal refusedOr asked little decimalTo textOf diaryLen books
+    asks recordDoes turnReply goOn streamFrom slot greatestOf
 example = refl

@@ -65,7 +65,8 @@ pub companions-rounds : (resumable : Bool) (span : ℕ) (xs : List Share) (from 
     → steps n (latestOf resumable span xs) from ≡ earliestOf resumable span xs from
 companions-rounds resumable span xs from n v few h =
     let ts = map (λ x. x .timeline) xs in
-    let count : length (eventsIn ts) ≤ 640 = omega (arith, events-count ts (each-in-map (λ t. timeline.valid t ≡ true) (λ x. x .timeline) xs v), length-map xs (λ (x : Share). x .timeline)) in
+    let count : length (eventsIn ts) ≤ 640
+    = omega (arith, events-count ts (each-in-map (λ t. timeline.valid t ≡ true) (λ x. x .timeline) xs v), length-map xs (λ (x : Share). x .timeline)) in
     answers-same (allStart resumable span xs) (allStart resumable span xs) from (steps n (latestOf resumable span xs) from) (earliestOf resumable span xs from) (λ x l. refl)
     (steps-mean (allStart resumable span xs) (latestOf resumable span xs) (eventsOf xs) (λ t. latest-says resumable span xs t v) from n (omega (arith, count)))
     (together-answers resumable span xs from v)

@@ -36,5 +36,6 @@ three = record {
 pub booked :
     (bookReply (bookReply (bookReply free1 5 9 1 .timeline) 5 7 2 .timeline) 0 3 1 ∷ bookReply three 8 8 1 ∷ [])
     ≡ record { refusal = 0; timeline = three } ∷ record { refusal = 2; timeline = three } ∷ []
-unfolding calendar.cellRight everyFrom calendar.spansRight calendar.valid empty bookingsTo total before timeline.cellRight timeline.cellEmpty timeline.valid insertBooking latestEnds diary bookRefusal taken bookReply
+unfolding calendar.cellRight everyFrom calendar.spansRight calendar.valid empty bookingsTo total before timeline.cellRight
+    timeline.cellEmpty timeline.valid insertBooking latestEnds diary bookRefusal taken bookReply
 booked = refl

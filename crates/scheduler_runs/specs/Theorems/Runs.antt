@@ -163,7 +163,18 @@ replies =
     ∷ []
 
 pub runs : map run marked ≡ replies
-unfolding run eq le mul div ofInt leastFrom spansFrom any holds meets contains calendar.cellRight everyFrom calendar.spansRight calendar.valid openFor fits working joint endFrom workEnd latest lastChange empty bookingsTo total latestEnd before timeline.cellRight timeline.cellEmpty timeline.valid overlaps onAt tally load free fitsAt freeTo startsAt lastEvent earliestFit earliestResumable insertBooking latestEnds diary bookRefusal taken bookReply asking.unbroken asking.ended asking.resumed asking.askRefusal asking.asked halfUp roundAway processAt isSpeed greatest product durationOn bit covers candidate serves readyOf every releaseRight short quantity quantitiesRight usageRight timesRight activityRefusal resources.lookupTo isAt entryOr matrixSetup setupMs transport.placesFrom transport.greatestTransport board.durationRight board.entryRight board.isZero board.matrixRight board.companionsRight board.lastRight board.resourceRight board.calendarBlank board.diaryBlank board.lastBlank board.resourceBlank board.cellRight board.transportRight board.valid canStart allStart lastOf earliestOf resourceIn withCompanions durationAlone spanOf arrival startAlone startWith sooner insertBy sortInto answer candidates holdFirst behind round greatestStart settle rounds choosing durationTogether greatestSetup among joinEach allCompanions companionEntries entriesOf spanTogether fitsAll allFree freeToEnd startsAll suits lastAll fitting endOf ended started fitted fitChosen timeOnly byRequirements placing refusedOr placeRefusal placeReply greatestOf
+unfolding run eq le mul div ofInt leastFrom spansFrom any holds meets contains calendar.cellRight everyFrom calendar.spansRight
+    calendar.valid openFor fits working joint endFrom workEnd latest lastChange empty bookingsTo total latestEnd before timeline.cellRight
+    timeline.cellEmpty timeline.valid overlaps onAt tally load free fitsAt freeTo startsAt lastEvent earliestFit earliestResumable
+    insertBooking latestEnds diary bookRefusal taken bookReply asking.unbroken asking.ended asking.resumed asking.askRefusal asking.asked
+    halfUp roundAway processAt isSpeed greatest product durationOn bit covers candidate serves readyOf every releaseRight short quantity
+    quantitiesRight usageRight timesRight activityRefusal resources.lookupTo isAt entryOr matrixSetup setupMs transport.placesFrom
+    transport.greatestTransport board.durationRight board.entryRight board.isZero board.matrixRight board.companionsRight board.lastRight
+    board.resourceRight board.calendarBlank board.diaryBlank board.lastBlank board.resourceBlank board.cellRight board.transportRight
+    board.valid canStart allStart lastOf earliestOf resourceIn withCompanions durationAlone spanOf arrival startAlone startWith sooner
+    insertBy sortInto answer candidates holdFirst behind round greatestStart settle rounds choosing durationTogether greatestSetup among
+    joinEach allCompanions companionEntries entriesOf spanTogether fitsAll allFree freeToEnd startsAll suits lastAll fitting endOf ended
+    started fitted fitChosen timeOnly byRequirements placing refusedOr placeRefusal placeReply greatestOf
 runs = refl
 
 placementIn : Result → Reply
@@ -184,5 +195,16 @@ pub companion-joins :
       transport = replicate 256 0;
     }) (order 100 1 (record { timing = Nothing } ∷ at two ∷ [])) 0 24
     ≡ placed 0 0 100 (entry 0 ∷ record { number = 1; setup = 0; units = 1; companion = true } ∷ [])
-unfolding eq le mul div ofInt leastFrom spansFrom any holds meets contains calendar.cellRight everyFrom calendar.spansRight calendar.valid openFor fits working joint endFrom workEnd latest lastChange empty bookingsTo total latestEnd before timeline.cellRight timeline.cellEmpty timeline.valid overlaps onAt tally load free fitsAt freeTo startsAt lastEvent earliestFit earliestResumable insertBooking latestEnds diary bookRefusal taken bookReply asking.unbroken asking.ended asking.resumed asking.askRefusal asking.asked halfUp roundAway processAt isSpeed greatest product durationOn bit covers candidate serves readyOf every releaseRight short quantity quantitiesRight usageRight timesRight activityRefusal resources.lookupTo isAt entryOr matrixSetup setupMs transport.placesFrom transport.greatestTransport board.durationRight board.entryRight board.isZero board.matrixRight board.companionsRight board.lastRight board.resourceRight board.calendarBlank board.diaryBlank board.lastBlank board.resourceBlank board.cellRight board.transportRight board.valid canStart allStart lastOf earliestOf resourceIn withCompanions durationAlone spanOf arrival startAlone startWith sooner insertBy sortInto answer candidates holdFirst behind round greatestStart settle rounds choosing durationTogether greatestSetup among joinEach allCompanions companionEntries entriesOf spanTogether fitsAll allFree freeToEnd startsAll suits lastAll fitting endOf ended started fitted fitChosen timeOnly byRequirements placing refusedOr placeRefusal placeReply greatestOf
+unfolding eq le mul div ofInt leastFrom spansFrom any holds meets contains calendar.cellRight everyFrom calendar.spansRight calendar.valid
+    openFor fits working joint endFrom workEnd latest lastChange empty bookingsTo total latestEnd before timeline.cellRight
+    timeline.cellEmpty timeline.valid overlaps onAt tally load free fitsAt freeTo startsAt lastEvent earliestFit earliestResumable
+    insertBooking latestEnds diary bookRefusal taken bookReply asking.unbroken asking.ended asking.resumed asking.askRefusal asking.asked
+    halfUp roundAway processAt isSpeed greatest product durationOn bit covers candidate serves readyOf every releaseRight short quantity
+    quantitiesRight usageRight timesRight activityRefusal resources.lookupTo isAt entryOr matrixSetup setupMs transport.placesFrom
+    transport.greatestTransport board.durationRight board.entryRight board.isZero board.matrixRight board.companionsRight board.lastRight
+    board.resourceRight board.calendarBlank board.diaryBlank board.lastBlank board.resourceBlank board.cellRight board.transportRight
+    board.valid canStart allStart lastOf earliestOf resourceIn withCompanions durationAlone spanOf arrival startAlone startWith sooner
+    insertBy sortInto answer candidates holdFirst behind round greatestStart settle rounds choosing durationTogether greatestSetup among
+    joinEach allCompanions companionEntries entriesOf spanTogether fitsAll allFree freeToEnd startsAll suits lastAll fitting endOf ended
+    started fitted fitChosen timeOnly byRequirements placing refusedOr placeRefusal placeReply greatestOf
 companion-joins = refl

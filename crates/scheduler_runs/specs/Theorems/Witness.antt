@@ -36,11 +36,17 @@ unfolding times
 one-more x y b = omega arith
 
 booked-more : Within (bookings (booked free1 0 100)) (bookings (booked (booked free1 0 100) 10 40))
-unfolding spansFrom calendar.cellRight everyFrom calendar.spansRight calendar.valid empty bookingsTo total insertBooking latestEnds diary bookRefusal taken bookReply before timeline.cellRight timeline.cellEmpty timeline.valid resources.lookupTo isAt board.durationRight board.entryRight board.isZero board.matrixRight board.companionsRight board.lastRight board.resourceRight board.calendarBlank board.diaryBlank board.lastBlank board.resourceBlank board.cellRight board.transportRight board.valid leastFrom
+unfolding spansFrom calendar.cellRight everyFrom calendar.spansRight calendar.valid empty bookingsTo total insertBooking latestEnds diary
+    bookRefusal taken bookReply before timeline.cellRight timeline.cellEmpty timeline.valid resources.lookupTo isAt board.durationRight
+    board.entryRight board.isZero board.matrixRight board.companionsRight board.lastRight board.resourceRight board.calendarBlank
+    board.diaryBlank board.lastBlank board.resourceBlank board.cellRight board.transportRight board.valid leastFrom
 booked-more = one-more (record { start = 0; end = 100; units = 1 }) (record { start = 10; end = 40; units = 1 })
 
 pub alike : Alike first second
-unfolding spansFrom calendar.cellRight everyFrom calendar.spansRight calendar.valid empty bookingsTo total insertBooking latestEnds diary bookRefusal taken bookReply before timeline.cellRight timeline.cellEmpty timeline.valid resources.lookupTo isAt board.durationRight board.entryRight board.isZero board.matrixRight board.companionsRight board.lastRight board.resourceRight board.calendarBlank board.diaryBlank board.lastBlank board.resourceBlank board.cellRight board.transportRight board.valid leastFrom
+unfolding spansFrom calendar.cellRight everyFrom calendar.spansRight calendar.valid empty bookingsTo total insertBooking latestEnds diary
+    bookRefusal taken bookReply before timeline.cellRight timeline.cellEmpty timeline.valid resources.lookupTo isAt board.durationRight
+    board.entryRight board.isZero board.matrixRight board.companionsRight board.lastRight board.resourceRight board.calendarBlank
+    board.diaryBlank board.lastBlank board.resourceBlank board.cellRight board.transportRight board.valid leastFrom
 alike = record {
   first-valid = refl;
   second-valid = refl;
@@ -74,7 +80,10 @@ alike = record {
 
 -- no extra is on the resource that the placement reports
 pub clean : Each (λ x. NoExtra first second (x .number)) (entry 1 ∷ [])
-unfolding spansFrom calendar.cellRight everyFrom calendar.spansRight calendar.valid empty bookingsTo total insertBooking latestEnds diary bookRefusal taken bookReply before timeline.cellRight timeline.cellEmpty timeline.valid resources.lookupTo isAt board.durationRight board.entryRight board.isZero board.matrixRight board.companionsRight board.lastRight board.resourceRight board.calendarBlank board.diaryBlank board.lastBlank board.resourceBlank board.cellRight board.transportRight board.valid leastFrom resourceIn
+unfolding spansFrom calendar.cellRight everyFrom calendar.spansRight calendar.valid empty bookingsTo total insertBooking latestEnds diary
+    bookRefusal taken bookReply before timeline.cellRight timeline.cellEmpty timeline.valid resources.lookupTo isAt board.durationRight
+    board.entryRight board.isZero board.matrixRight board.companionsRight board.lastRight board.resourceRight board.calendarBlank
+    board.diaryBlank board.lastBlank board.resourceBlank board.cellRight board.transportRight board.valid leastFrom resourceIn
 clean =
     let same : NoExtra first second 1 = λ b. omega arith in
     each-on same each-end

@@ -102,7 +102,8 @@ run-33rd c block ws w vs h v g good full =
     let whole : addRun c block ws ≡ reply 0 m = ap (λ (n : ℕ). reply n m) e in
     let many : listOf block m .len ≡ 32 = accepted-len c block ws m taken ∙ full in
     let a : w .start ≤ lastInstant = omega (arith, good .0, good .1) in
-    let four : addOne m block w .refusal ≡ 4 = one-number m block w ∙ sym (refuse-4 m (listOf block m .len) (w .start) (w .end) (taken .ruled) a (good .0) (good .1) (omega (arith, many))) in
+    let four : addOne m block w .refusal ≡ 4
+    = one-number m block w ∙ sym (refuse-4 m (listOf block m .len) (w .start) (w .end) (taken .ruled) a (good .0) (good .1) (omega (arith, many))) in
     run-first c block m ws w vs whole (λ z. absurd (omega (arith, four, z))) ∙ ap (λ (n : ℕ). reply n c) four
   where
     accepted-len : (c : Calendar) (block : Bool) (ws : List TimeWindow) (m : Calendar) → TakenWhole c block ws m → listOf block m .len ≡ listOf block c .len + length ws
@@ -110,5 +111,6 @@ run-33rd c block ws w vs h v g good full =
         let a = spans-long (listOf block m) 0 (listOf block m .len) in
         let b = spans-long (listOf block c) 0 (listOf block c .len) in
         let d = length-map ws spanOf in
-        let f : length (spans (listOf block m)) ≡ length (spans (listOf block c)) + length (map spanOf ws) = ap length (t .list) ∙ length-append (spans (listOf block c)) (map spanOf ws) in
+        let f : length (spans (listOf block m)) ≡ length (spans (listOf block c)) + length (map spanOf ws)
+        = ap length (t .list) ∙ length-append (spans (listOf block c)) (map spanOf ws) in
         omega (arith, a, b, d, f)

@@ -78,5 +78,6 @@ pub timeline-runs :
     ∷ addTimelineRun (diary 1 spoilt []) false (span 0 10 ∷ [])
     ∷ [])
     ≡ record { refusal = 0; timeline = diary 1 touching [] } ∷ record { refusal = 2; timeline = diary 1 empty [] } ∷ record { refusal = 15; timeline = diary 1 spoilt [] } ∷ []
-unfolding cellRight everyFrom spansRight valid addRefusal empty withSpan added addWindow addBlock addOne judged addRun bookingsTo total timelines.cellEmpty timelines.valid latestEnds diary withCalendar calendarReply addTimelineRun
+unfolding cellRight everyFrom spansRight valid addRefusal empty withSpan added addWindow addBlock addOne judged addRun bookingsTo total
+    timelines.cellEmpty timelines.valid latestEnds diary withCalendar calendarReply addTimelineRun
 timeline-runs = refl
