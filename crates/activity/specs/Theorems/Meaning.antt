@@ -38,7 +38,7 @@ use Rattle.activity_speeds.proofs.Identity.{one-times}
 use Rattle.activity.specs.Laws.Holding.{product-within, greatest-lawful}
 
 -- Rounding: what `half-up-bounds` says of `halfUp a c` is true of no other r.
-half-up-only : (a c r : ℕ) → 2 * (r * c) ≤ 2 * a + c → 2 * a < 2 * (r * c) + c → halfUp a c ≡ r
+pub half-up-only : (a c r : ℕ) → 2 * (r * c) ≤ 2 * a + c → 2 * a < 2 * (r * c) + c → halfUp a c ≡ r
 unfolding halfUp
 half-up-only a c r h k = div-eq-of-lt-le (2 * c) lo hi
   where

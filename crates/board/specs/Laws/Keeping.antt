@@ -5,13 +5,13 @@ use mathlib.Core.Path.{_≡_, refl, ap, _∙_}
 use Prim.Native.Nat.{ℕ, _/_, _%_, _^_, _<_}
 use native.Mathlib.Omega.{arith}
 use lib.Dec.{leb, eqb}
-use lib.ListN.{length, getD, getD-replicate}
+use lib.ListN.{length, getD}
 use lib.Seq.{getD-set-same, getD-set-other}
 use Rattle.cells.specs.Laws.Basics.{and-split, same-or-not}
-use Rattle.calendar.specs.Search.{Found, nothing, at, leastFrom, isAt}
+use Rattle.calendar.specs.Search.{Found, nothing, at, isAt}
 use Rattle.calendar.specs.Laws.Searching.{least-same}
 use Rattle.cells.specs.Every.{everyFrom}
-use Rattle.board.specs.Enter.{blankResource, emptyBoard, withResource, changed}
+use Rattle.board.specs.Enter.{blankResource, withResource, changed}
 use Rattle.board.specs.Resources.{noResource, resourceAt, numberAt, lookupTo, lookup, onBoard}
 use Rattle.board.specs.Valid.{isZero, matrixRight, companionsRight, resourceRight, calendarBlank, diaryBlank, lastBlank, resourceBlank, transportCell, transportRight, valid}
 use Rattle.board.specs.declared.Board.{Board}
@@ -90,17 +90,7 @@ changed-keeps b number g long v f = go (lookup b number) refl
         valid-with b k (g (resourceAt b k)) long v m (w .0) (w .1)
 
 -- a board with no resource keeps the rules
-blank-right : resourceBlank blankResource ≡ true
+pub blank-right : resourceBlank blankResource ≡ true
 unfolding resourceBlank companionsRight diaryBlank calendarBlank calendar.valid calendar.spansRight calendar.cellRight empty
     timeline.cellEmpty matrixRight isZero lastBlank everyFrom
 blank-right = refl
-
-pub new-keeps : valid emptyBoard ≡ true
-unfolding emptyBoard transportRight lookupTo leastFrom isAt
-new-keeps = ruled emptyBoard (record {
-  few = omega arith;
-  right = λ i l. absurd (omega arith);
-  new = λ i l. absurd (omega arith);
-  blank = λ i l m. ap resourceBlank (getD-replicate 16 i blankResource noResource m) ∙ blank-right;
-  transport = λ k l. rw (getD-replicate {A = ℕ} 256 k 0 0 l) refl;
-})

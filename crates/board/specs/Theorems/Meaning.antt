@@ -1,21 +1,20 @@
 -- What the definitions amount to: where a number stands, what a valid board says of each resource, setups and transports.
 use borrow.Author.Tests.{leb-true, eqb-true, lt-ltb, eq-eqb}
 use mathlib.Core.Bool.{Bool, true, false, cond, _&&_, _||_}
-use mathlib.Core.Path.{_≡_, refl}
+use mathlib.Core.Path.{_≡_, refl, ap, _∙_}
 use Prim.Native.Nat.{ℕ, zero, suc, _+_, _*_, _/_, _%_, _^_, _≤_, _<_, max}
 use native.Mathlib.Omega.{arith}
 use lib.Dec.{leb, eqb}
 use lib.IntN.{ℤ, pos, negsuc}
-use lib.ListN.{getD}
+use lib.ListN.{getD, getD-replicate}
 use Rattle.cells.specs.Laws.Basics.{and-split}
-use Rattle.calendar.specs.Search.{at}
-use Rattle.board.specs.Resources.{resourceAt, numberAt, lookupTo, lookup, onBoard}
+use Rattle.calendar.specs.Search.{at, leastFrom, isAt}
+use Rattle.board.specs.Resources.{resourceAt, numberAt, lookupTo, lookup, onBoard, noResource}
 use Rattle.board.specs.Setups.{entryOr, matrixSetup, setupMs}
 use Rattle.calendar.specs.Sets.{bit}
 use Rattle.board.specs.Transport.{greatestTransport, transportTo}
 use Rattle.board.specs.Places.{anywhere}
-use Rattle.board.specs.Valid.{durationRight, entryRight, isZero, ownRight, entryCell, matrixRight}
-use Rattle.board.specs.Valid.{companionCell, companionsRight, lastRight, resourceRight, transportCell, transportRight, valid}
+use Rattle.board.specs.Valid.{durationRight, entryRight, isZero, ownRight, entryCell, matrixRight, companionCell, companionsRight, lastRight, resourceRight, transportCell, transportRight, valid, resourceBlank}
 use Rattle.board.specs.declared.Board.{Board}
 use Rattle.board.specs.declared.LastCategory.{LastCategory}
 use Rattle.board.specs.declared.LastCategory.the-variants.{Nothing, Category}
@@ -23,11 +22,13 @@ use Rattle.board.specs.declared.Resource.{Resource}
 use Rattle.board.specs.declared.TransitionMatrix.{TransitionMatrix}
 use Rattle.cells.specs.Every.{everyFrom}
 use Rattle.cells.specs.Laws.Every.{from-at}
-use Rattle.board.specs.Laws.Facts.{rules}
+use Rattle.board.specs.Laws.Facts.{rules, ruled}
 use Rattle.board.specs.Laws.Masks.{greatest-none, greatest-next}
 use Rattle.board.specs.Laws.Seeing.{lookup-below, lookup-number, nothing-of}
 use Rattle.calendar.specs.Laws.Searching.{least-none, least-is}
 use Rattle.timeline.specs.Valid as timeline
+use Rattle.board.specs.Enter.{blankResource, emptyBoard}
+use Rattle.board.specs.Laws.Keeping.{blank-right}
 
 -- on a valid board a resource stands where its number is looked up
 pub lookup-is : (b : Board) → valid b ≡ true → (i : ℕ) → i < b .len → lookup b (numberAt b i) ≡ at i
@@ -174,3 +175,13 @@ setup-small m last this own h r l o = go (m .present) refl
     go : (t : Bool) → m .present ≡ t → cond t (matrixSetup m last this) own ≤ 2 ^ 36
     go false e = o
     go true e = by-matrix m last this (parts .0) (parts .1) (parts .2) (parts .3) r l
+
+pub new-keeps : valid emptyBoard ≡ true
+unfolding emptyBoard transportRight lookupTo leastFrom isAt
+new-keeps = ruled emptyBoard (record {
+  few = omega arith;
+  right = λ i l. absurd (omega arith);
+  new = λ i l. absurd (omega arith);
+  blank = λ i l m. ap resourceBlank (getD-replicate 16 i blankResource noResource m) ∙ blank-right;
+  transport = λ k l. rw (getD-replicate {A = ℕ} 256 k 0 0 l) refl;
+})

@@ -4,7 +4,7 @@ use borrow.Author.Tests.{not-true, not-false}
 use mathlib.Core.Path.{sym, _∙_}
 use native.Mathlib.Omega.{arith}
 use Rattle.board_numbers.proofs.Standing.{on-is}
-use Rattle.board_resources.proofs.Replying.{add-15, add-diary, add-number, add-companion, add-there, add-many, add-0}
+use Rattle.board_resources.specs.Laws.Replying.{add-15, add-diary, add-number, add-companion, add-there, add-many, add-0}
 use Rattle.board_resources.proofs.add_refusal.Statement.{statement}
 use Rattle.board_resources.proofs.add_refusal.Tie as tie
 

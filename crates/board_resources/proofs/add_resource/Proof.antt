@@ -4,7 +4,7 @@ use mathlib.Core.Path.{sym, _∙_}
 use native.Mathlib.Omega.{arith}
 use Rattle.board.specs.Enter.{withNew, addResourceReply}
 use Rattle.board.specs.Laws.Replying.{refused-by, taken-by}
-use Rattle.board_resources.proofs.Replying.{add-taken}
+use Rattle.board_resources.specs.Laws.Replying.{add-taken}
 use Rattle.board_resources.proofs.add_resource.Statement.{statement}
 use Rattle.board_resources.proofs.add_resource.Tie as tie
 

@@ -10,7 +10,7 @@ use Rattle.calendar.specs.Search.{Found, nothing, at, when, Earliest}
 use Rattle.calendar.specs.Laws.Searching.{not-at}
 use Rattle.activity.specs.declared.ResourceRequirement.{ResourceRequirement}
 use Rattle.activity.specs.declared.Activity.{Activity}
-use Rattle.activity.specs.Check.{requirementsOf, quantity, activityRefusal}
+use Rattle.activity.specs.Check.{requirementsOf, activityRefusal}
 use Rattle.board.specs.declared.Board.{Board}
 use Rattle.scheduler.specs.Alone.{spanOf}
 use Rattle.scheduler.specs.Choosing.{Held, Choice, noChoice, chosen, choosing}

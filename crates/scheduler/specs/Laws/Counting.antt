@@ -11,7 +11,7 @@ use borrow.Author.Tests.{eqb-true, eqb-false}
 use Rattle.cells.specs.Laws.Basics.{not-both, lt-or-ge}
 use Rattle.calendar.specs.Search.{Found, nothing, at, Answers}
 use Rattle.timeline.specs.Laws.Searching.{Sought, sought-start}
-use Rattle.scheduler.specs.Choosing.{Held, holds, Choice, noChoice, chosen}
+use Rattle.scheduler.specs.Choosing.{Held, Choice, noChoice, chosen}
 use Rattle.scheduler.specs.Fitting.{among}
 use Rattle.scheduler.specs.Plain.{Chooses}
 use Rattle.scheduler.specs.Instants.{above, stepped, steps}

@@ -12,7 +12,7 @@ use Rattle.calendar.specs.Valid as calendar
 use Rattle.activity.specs.declared.ResourceRequirement.{ResourceRequirement}
 use Rattle.activity.specs.declared.Activity.{Activity}
 use Rattle.cells.specs.Every.{each-end}
-use Rattle.activity.specs.Check.{requirementsOf, quantity, activityRefusal}
+use Rattle.activity.specs.Check.{requirementsOf, activityRefusal}
 use Rattle.board.specs.declared.Board.{Board}
 use Rattle.board.specs.Valid as board
 use Rattle.scheduler.specs.Alone.{spanOf}

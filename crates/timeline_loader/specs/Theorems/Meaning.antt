@@ -17,7 +17,7 @@ use Rattle.calendar.specs.Laws.Adding.{taken, refuse-15, refuse-4}
 use Rattle.timeline_loader.specs.declared.TimeWindow.{TimeWindow}
 use Rattle.timeline_loader.specs.Run.{reply, addOne, judged, addRun}
 use Rattle.timeline_loader.specs.Plain.{listOf, spanOf, Good, AllGood, WholeArrays, TakenWhole}
-use Rattle.timeline_loader.specs.Laws.Judging.{refusal, one-number, one-new, one-old}
+use Rattle.timeline_loader.specs.Laws.Judging.{one-number, one-new, one-old}
 use Rattle.timeline_loader.specs.Laws.Judging.{judged-good, judged-bad, by-record, judged-accepted, judged-all, judged-refused, judged-first}
 
 -- ---- a run

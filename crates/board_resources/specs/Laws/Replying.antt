@@ -12,7 +12,7 @@ use Rattle.board.specs.Enter.{addRefusal}
 use Rattle.board.specs.Resources.{onBoard}
 use Rattle.board.specs.Valid.{valid}
 use Rattle.board.specs.declared.Board.{Board}
-use Rattle.board_resources.proofs.Counting.{place-left}
+use Rattle.board_resources.specs.Laws.Counting.{place-left}
 use Rattle.timeline.specs.declared.ResourceTimeline.{ResourceTimeline}
 use Rattle.timeline.specs.Valid as timeline
 

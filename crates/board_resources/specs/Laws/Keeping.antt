@@ -1,6 +1,6 @@
--- An accepted entry leaves a valid board valid, and so does a refused one, which changes nothing.
+-- What an entry puts on a board keeps the rules there: a matrix and its entries, a transport, a resource.
 use borrow.Author.Tests.{not-false, lt-ltb, le-ltb, le-leb, eq-eqb}
-use mathlib.Core.Bool.{Bool, true, false, not, cond, _&&_, _||_, true≢false}
+use mathlib.Core.Bool.{Bool, true, false, not, cond, true≢false}
 use mathlib.Core.List.{List}
 use mathlib.Core.Logic.{⊎-elim}
 use mathlib.Core.Path.{_≡_, refl, sym, ap, _∙_}
@@ -13,7 +13,7 @@ use lib.ListN.{length, getD, set, replicate, getD-replicate, List·getD-append}
 use lib.Seq.{getD-set-same, getD-set-other, set-out, getD-append-add}
 use Rattle.cells.specs.Laws.Basics.{and-split, and-join, lt-or-ge, same-or-not, unrefused}
 use Rattle.calendar.specs.Search.{Found, nothing, at, isAt}
-use Rattle.board.specs.Enter.{entered, companionCells, newResource, withNew, addResourceReply, matrixRefusal, newMatrix, withMatrix, setMatrixReply, entryRefusal, matrixOf, withTransition, withInitial, setTransitionReply, setInitialReply, withTransport, setTransportReply, withTimeline, putRefusal, putTimelineReply}
+use Rattle.board.specs.Enter.{entered, companionCells, newResource, withNew, newMatrix, withMatrix, matrixOf, withTransition, withInitial, withTransport, withTimeline}
 use Rattle.board.specs.Resources.{noResource, resourceAt, numberAt, lookupTo, onBoard}
 use Rattle.board.specs.Valid.{durationRight, entryRight, isZero, matrixRight, companionsRight, lastRight, resourceRight, resourceBlank, transportRight, valid}
 use Rattle.board.specs.declared.Board.{Board}
@@ -23,22 +23,19 @@ use Rattle.board_numbers.proofs.Standing.{on-small}
 use Rattle.cells.specs.Every.{every, everyFrom}
 use Rattle.cells.specs.Laws.Every.{every-in, from-at, from-all}
 use Rattle.board.specs.Laws.Facts.{rules, ruled}
-use Rattle.board.specs.Theorems.Meaning.{resource-rules}
-use Rattle.board_resources.proofs.Replying.{add-taken}
-use Rattle.board_transport.proofs.Replying.{transport-taken}
-use Rattle.board.specs.Laws.Keeping.{lookup-same, widened, changed-keeps}
+use Rattle.board.specs.Laws.Keeping.{lookup-same, widened}
 use Rattle.board.specs.Laws.Seeing.{lookup-more}
 use Rattle.timeline.specs.declared.ResourceTimeline.{ResourceTimeline}
 use Rattle.timeline.specs.Valid as timeline
 
 -- what an entry leaves is the board, or the board changed
-entered-keeps : (n : ℕ) (b after : Board) → valid b ≡ true → (n ≡ 0 → valid after ≡ true) → valid (entered n b after .board) ≡ true
+pub entered-keeps : (n : ℕ) (b after : Board) → valid b ≡ true → (n ≡ 0 → valid after ≡ true) → valid (entered n b after .board) ≡ true
 unfolding entered
 entered-keeps zero b after v f = f refl
 entered-keeps (suc n) b after v f = v
 
 -- a resource with another matrix or diary
-remade : (r : Resource) (m : TransitionMatrix) → resourceRight r ≡ true → matrixRight m ≡ true → resourceRight (withMatrix m r) ≡ true
+pub remade : (r : Resource) (m : TransitionMatrix) → resourceRight r ≡ true → matrixRight m ≡ true → resourceRight (withMatrix m r) ≡ true
 unfolding resourceRight
 remade r m h g =
     let h1 = and-split (leb (r .number) 15) _ h in
@@ -47,7 +44,7 @@ remade r m h g =
     let h4 = and-split (matrixRight (r .matrix)) (lastRight (r .last)) (h3 .1) in
     rw (h1 .0, h2 .0, h3 .0, g, h4 .1) refl
 
-rewritten : (r : Resource) (t : ResourceTimeline) → resourceRight r ≡ true → timeline.valid t ≡ true → resourceRight (withTimeline t r) ≡ true
+pub rewritten : (r : Resource) (t : ResourceTimeline) → resourceRight r ≡ true → timeline.valid t ≡ true → resourceRight (withTimeline t r) ≡ true
 unfolding resourceRight
 rewritten r t h g =
     let h1 = and-split (leb (r .number) 15) _ h in
@@ -56,11 +53,11 @@ rewritten r t h g =
     rw (h1 .0, h2 .0, g, h3 .1) refl
 
 -- matrices
-new-right : (d i : ℤ) → durationRight d ≡ true → durationRight i ≡ true → matrixRight (newMatrix d i) ≡ true
+pub new-right : (d i : ℤ) → durationRight d ≡ true → durationRight i ≡ true → matrixRight (newMatrix d i) ≡ true
 unfolding matrixRight everyFrom entryRight
 new-right d i p q = rw (p, q) refl
 
-of-right : (m : TransitionMatrix) → matrixRight m ≡ true → (matrixRight (matrixOf m) ≡ true) × (matrixOf m .present ≡ true)
+pub of-right : (m : TransitionMatrix) → matrixRight m ≡ true → (matrixRight (matrixOf m) ≡ true) × (matrixOf m .present ≡ true)
 unfolding matrixOf durationRight
 of-right m h = go (m .present) refl
   where
@@ -96,13 +93,13 @@ parts m p h =
     let h3 = and-split (everyFrom (λ i. entryRight (getD (m .transitions) i (pos 0))) 0 256) (everyFrom (λ i. entryRight (getD (m .initials) i (pos 0))) 0 16) (h2 .1) in
     record { first = h1 .0; second = h2 .0; pairs = h3 .0; firsts = h3 .1 }
 
-transition-right : (m : TransitionMatrix) (last this : ℕ) (ms : ℤ) → m .present ≡ true → matrixRight m ≡ true → entryRight ms ≡ true → matrixRight (withTransition last this ms m) ≡ true
+pub transition-right : (m : TransitionMatrix) (last this : ℕ) (ms : ℤ) → m .present ≡ true → matrixRight m ≡ true → entryRight ms ≡ true → matrixRight (withTransition last this ms m) ≡ true
 unfolding matrixRight
 transition-right m last this ms p h e =
     let w = parts m p h in
     rw (p, w .first, w .second, set-every (m .transitions) (16 * last + this) 256 ms (w .pairs) e, w .firsts) refl
 
-initial-right : (m : TransitionMatrix) (category : ℕ) (ms : ℤ) → m .present ≡ true → matrixRight m ≡ true → entryRight ms ≡ true → matrixRight (withInitial category ms m) ≡ true
+pub initial-right : (m : TransitionMatrix) (category : ℕ) (ms : ℤ) → m .present ≡ true → matrixRight m ≡ true → entryRight ms ≡ true → matrixRight (withInitial category ms m) ≡ true
 unfolding matrixRight
 initial-right m category ms p h e =
     let w = parts m p h in
@@ -126,7 +123,7 @@ set-there b from to ms k ne h =
     let c = withTransport b from to ms in
     rw (getD-set-other (b .transport) (16 * from + to) k ms 0 ne, lookup-same b c (b .len) (k / 16) (λ j m. refl), lookup-same b c (b .len) (k % 16) (λ j m. refl)) h
 
-transport-kept-with : (b : Board) (from to ms : ℕ) → valid b ≡ true → length (b .transport) ≡ 256
+pub transport-kept-with : (b : Board) (from to ms : ℕ) → valid b ≡ true → length (b .transport) ≡ 256
     → (valid b ≡ true) × (onBoard b from ≡ true) × (onBoard b to ≡ true) × (ms ≤ 2 ^ 36) → valid (withTransport b from to ms) ≡ true
 transport-kept-with b from to ms v wide f =
     let u = rules b v in
@@ -173,7 +170,7 @@ companions-right companions l h =
     (λ (k : length companions ≤ j). rw (le-ltb j (length companions) k) (past companions j k (omega arith)))
     (lt-or-ge j (length companions))))
 
-new-resource : (number kind skills : ℕ) (companions : List ℕ) (t : ResourceTimeline) → number ≤ 15 → length companions ≤ 4
+pub new-resource : (number kind skills : ℕ) (companions : List ℕ) (t : ResourceTimeline) → number ≤ 15 → length companions ≤ 4
     → every (λ companion. leb companion 15) companions ≡ true → timeline.valid t ≡ true → resourceRight (newResource number kind skills companions t) ≡ true
 unfolding resourceRight matrixRight everyFrom isZero lastRight
 new-resource number kind skills companions t l m h w = rw (le-leb number 15 l, companions-right companions m h, w) refl
@@ -198,7 +195,7 @@ module _ (b : Board) (r : Resource) (long : length (b .resources) ≡ 16) (v : v
   wider k t =
       widened (getD (b .transport) k 0) (onBoard b (k / 16)) (onBoard b (k % 16)) _ _ (λ o. still-on (k / 16) o) (λ o. still-on (k % 16) o) t
 
-  valid-new : valid (withNew b r) ≡ true
+  pub valid-new : valid (withNew b r) ≡ true
   unfolding withNew
   valid-new =
       let u = rules b v in
@@ -219,52 +216,5 @@ module _ (b : Board) (r : Resource) (long : length (b .resources) ≡ 16) (v : v
       })
 
 -- the last of three checks that were passed
-third : (v o q : Bool) → _≡_ {A = ℕ} (cond (not v) 15 (cond (not o) 5 (cond (not q) 1 0))) 0 → q ≡ true
+pub third : (v o q : Bool) → _≡_ {A = ℕ} (cond (not v) 15 (cond (not o) 5 (cond (not q) 1 0))) 0 → q ≡ true
 third v o q e = not-false q (unrefused (not q) 0 0 (unrefused (not o) 4 _ (unrefused (not v) 14 _ e .1) .1) .0)
-
-module _ (b : Board) (long : length (b .resources) ≡ 16) (v : valid b ≡ true) where
-  set-matrix-keeps : (number : ℕ) (d i : ℤ) → valid (setMatrixReply b number d i .board) ≡ true
-  unfolding setMatrixReply matrixRefusal
-  set-matrix-keeps number d i =
-      entered-keeps _ b _ v (λ z.
-      let w = and-split (durationRight d) (durationRight i) (third (valid b) (onBoard b number) (durationRight d && durationRight i) z) in
-      changed-keeps b number (withMatrix (newMatrix d i)) long v (λ k l. (remade _ _ (rules b v .right k l) (new-right d i (w .0) (w .1)), refl)))
-
-  set-transition-keeps : (number last this : ℕ) (ms : ℤ) → valid (setTransitionReply b number last this ms .board) ≡ true
-  unfolding setTransitionReply entryRefusal
-  set-transition-keeps number last this ms =
-      entered-keeps _ b _ v (λ z.
-      let w = third (valid b) (onBoard b number && (leb last 15 && leb this 15)) (entryRight ms) z in
-      changed-keeps b number _ long v (λ k l.
-      let r = rules b v .right k l in
-      let o = of-right (resourceAt b k .matrix) (resource-rules _ r .matrix) in
-      (remade _ _ r (transition-right _ last this ms (o .1) (o .0) w), refl)))
-
-  set-initial-keeps : (number category : ℕ) (ms : ℤ) → valid (setInitialReply b number category ms .board) ≡ true
-  unfolding setInitialReply entryRefusal
-  set-initial-keeps number category ms =
-      entered-keeps _ b _ v (λ z.
-      let w = third (valid b) (onBoard b number && leb category 15) (entryRight ms) z in
-      changed-keeps b number _ long v (λ k l.
-      let r = rules b v .right k l in
-      let o = of-right (resourceAt b k .matrix) (resource-rules _ r .matrix) in
-      (remade _ _ r (initial-right _ category ms (o .1) (o .0) w), refl)))
-
-  put-timeline-keeps : (number : ℕ) (t : ResourceTimeline) → valid (putTimelineReply b number t .board) ≡ true
-  unfolding putTimelineReply putRefusal
-  put-timeline-keeps number t =
-      entered-keeps _ b _ v (λ z.
-      let w = unrefused (not (valid b) || not (timeline.valid t)) 14 _ z .0 in
-      let u : timeline.valid t ≡ true = not-false _ (rw v at w) in
-      changed-keeps b number (withTimeline t) long v (λ k l. (rewritten _ t (rules b v .right k l) u, refl)))
-
-  set-transport-keeps : length (b .transport) ≡ 256 → (from to ms : ℕ) → valid (setTransportReply b from to ms .board) ≡ true
-  unfolding setTransportReply
-  set-transport-keeps wide from to ms = entered-keeps _ b _ v (λ z. transport-kept-with b from to ms v wide (transport-taken b from to ms z))
-
-  pub add-resource-keeps : (number kind skills : ℕ) (companions : List ℕ) (t : ResourceTimeline) → valid (addResourceReply b number kind skills companions t .board) ≡ true
-  unfolding addResourceReply
-  add-resource-keeps number kind skills companions t =
-      entered-keeps _ b _ v (λ z.
-      let w = add-taken b number companions t z in
-      valid-new b (newResource number kind skills companions t) long v (w .room) (new-resource number kind skills companions t (w .low) (w .few) (w .each) (w .diary)) (w .new))

@@ -1,0 +1,2 @@
+-- That entries keep the rules.
+pub mod Keeping
