@@ -1,28 +1,17 @@
 -- `board_rules::rules::transport_right` meets its contract. The loop: what is left of the cells decides as all of them do.
 use borrow.Author.Needs.{needs}
 use borrow.Author.Tests.{not-true, not-false}
-use mathlib.Core.Bool.{Bool}
-use mathlib.Core.List.{List}
 use mathlib.Core.Path.{_≡_, refl, sym, _∙_}
-use Prim.Native.Nat.{ℕ, _-_, _/_, _%_, _≤_}
+use Prim.Native.Nat.{_-_, _≤_}
 use native.Mathlib.Omega.{arith}
-use lib.Dec.{ltb}
-use lib.ListN.{getD}
-use Rattle.board.specs.Valid.{transportCell}
 use Rattle.cells.specs.Every.{everyFrom}
 use Rattle.cells.specs.Laws.Every.{from-stop, from-more, from-done}
 use Rattle.board_rules.proofs.rules.transport_right.Statement.{statement}
 use Rattle.board_rules.proofs.rules.transport_right.Tie as tie
-
--- the rule of one cell, by the places of the numbers
-abbrev cell : List ℕ → List ℕ → ℕ → Bool
-cell transport places k = transportCell (getD transport k 0) (ltb (getD places (k / 16) 0) 16) (ltb (getD places (k % 16) 0) 16)
-
-abbrev cells : List ℕ → List ℕ → Bool
-cells transport places = everyFrom (cell transport places) 0 256
+use Rattle.board.specs.Places.{transportRightBy}
 
 abbrev Inv-loop : tie.InvT-loop
-Inv-loop transport places k₀ k = (k ≤ 256) × (cells transport places ≡ everyFrom (cell transport places) k (256 - k))
+Inv-loop transport places k₀ k = (k ≤ 256) × (everyFrom (transportRightBy transport places) 0 256 ≡ everyFrom (transportRightBy transport places) k (256 - k))
 
 abbrev μ-loop : tie.MeasureT-loop
 μ-loop transport places k₀ k = 256 - k

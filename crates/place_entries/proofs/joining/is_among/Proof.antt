@@ -1,4 +1,4 @@
--- `place_entries::is_among` meets its contract. The loop: none of the first i entries has the number.
+-- `place_entries::joining::is_among` meets its contract. The loop: none of the first i entries has the number.
 use Rattle.place_entries.proofs.joining.is_among.Statement.{statement}
 use Rattle.place_entries.proofs.joining.is_among.Tie as tie
 use Rattle.place_entries.proofs.joining.is_among.Reads as reads

@@ -1,4 +1,4 @@
--- `place_entries::join_each` meets its contract. The loop: the first i companions have joined, each once.
+-- `place_entries::joining::join_each` meets its contract. The loop: the first i companions have joined, each once.
 use Rattle.place_entries.proofs.joining.join_each.Statement.{statement}
 use Rattle.place_entries.proofs.joining.join_each.Tie as tie
 use Rattle.place_entries.proofs.joining.join_each.Reads as reads

@@ -1,4 +1,4 @@
--- `place_entries::no_entries` meets its contract.
+-- `place_entries::joining::no_entries` meets its contract.
 use mathlib.Core.Path.{refl}
 use Rattle.place_entries.proofs.joining.no_entries.Statement.{statement}
 use Rattle.place_entries.proofs.joining.no_entries.Tie as tie
