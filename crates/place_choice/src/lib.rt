@@ -7,6 +7,7 @@
 // Reference: the Rust's own, the fixed point of the serial schedule generation scheme (`place_activity`).
 use activity::Activity;
 use board::Board;
+use place_companions::member_of;
 use place_rounds::Choice;
 use timeline_fit::Start;
 ghost use mathlib.Core.Path.{_≡_};
@@ -41,14 +42,7 @@ pub fn choose(b: Board, a: Activity, ready: u64, places: [usize; 16]) -> Choice
             k = 0;
         } else if place_rounds::is_asked(k % 16, b.len, asked[k], starts[k], x.instant) {
             let p = plans[k % 16];
-            let m = place_companions::member_of(
-                a.requirements[k / 16],
-                p,
-                k % 16,
-                places,
-                x.instant,
-                g,
-            );
+            let m = member_of(a.requirements[k / 16], p, k % 16, places, x.instant, g);
             let place = m.place;
             let mut s = Start::Nothing;
             if place < 16 {
