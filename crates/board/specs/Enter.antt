@@ -1,58 +1,23 @@
 -- An empty board, and the replies of 'Board entries': 15 before all else, then 5, 1 and 4 in 01's order.
-use Prim.Native.Nat.{ℕ, zero, suc, _+_, _-_, _*_}
-use mathlib.Core.Bool.{Bool, true, false, not, cond, _&&_, _||_}
-use mathlib.Core.List.{List, _++_}
+use Prim.Native.Nat.{ℕ, zero, suc, _+_, _*_}
+use mathlib.Core.Bool.{Bool, true, not, cond, _&&_, _||_}
+use mathlib.Core.List.{List}
 use lib.ListN.{length, set, replicate}
 use lib.Dec.{leb, ltb}
 use lib.IntN.{ℤ, pos, negsuc}
 use Rattle.cells.specs.Every.{every}
 use Rattle.calendar.specs.Limits.{longestDuration}
-use Rattle.calendar.specs.Add.{empty}
 use Rattle.calendar.specs.Search.{Found, nothing, at}
 use Rattle.timeline.specs.declared.ResourceTimeline.{ResourceTimeline}
 use Rattle.timeline.specs.Valid as timeline
+use Rattle.timeline.specs.Diary.{blankDiary}
 use Rattle.board.specs.declared.TransitionMatrix.{TransitionMatrix}
-use Rattle.board.specs.declared.LastCategory.the-variants.{Nothing}
 use Rattle.board.specs.declared.Resource.{Resource}
 use Rattle.board.specs.declared.Board.{Board}
 use Rattle.board.specs.declared.Entered.{Entered}
 use Rattle.board.specs.declared.Looked.{Looked}
-use Rattle.board.specs.Resources.{resourceAt, lookup, onBoard}
+use Rattle.board.specs.Resources.{blankResource, newResource, withTimeline, withMatrix, resourceAt, lookup, onBoard}
 use Rattle.board.specs.Valid.{durationRight, entryRight, valid}
-
--- a cell past the length
-abbrev pub blankDiary : ResourceTimeline
-blankDiary = record {
-  capacity = 0;
-  calendar = empty;
-  starts = replicate 64 0;
-  ends = replicate 64 0;
-  units = replicate 64 0;
-  latest = replicate 64 0;
-  len = 0;
-  booked = 0;
-}
-
-abbrev pub blankMatrix : TransitionMatrix
-blankMatrix = record {
-  present = false;
-  default = pos 0;
-  initial = pos 0;
-  transitions = replicate 256 (pos 0);
-  initials = replicate 16 (pos 0);
-}
-
-abbrev pub blankResource : Resource
-blankResource = record {
-  number = 0;
-  kind = 0;
-  skills = 0;
-  companions = replicate 4 0;
-  count = 0;
-  timeline = blankDiary;
-  matrix = blankMatrix;
-  last = Nothing;
-}
 
 unfoldable pub emptyBoard : Board
 emptyBoard = record { resources = replicate 16 blankResource; len = 0; transport = replicate 256 0 }
@@ -77,22 +42,6 @@ addRefusal b number companions t =
     (cond (ltb 15 number || not (every (λ companion. leb companion 15) companions)) 5
     (cond (onBoard b number || ltb 4 (length companions)) 4 0))
 
-abbrev pub companionCells : List ℕ → List ℕ
-companionCells companions = companions ++ replicate (4 - length companions) 0
-
--- no matrix, and nothing was last
-abbrev pub newResource : ℕ → ℕ → ℕ → List ℕ → ResourceTimeline → Resource
-newResource number kind skills companions t = record {
-  number = number;
-  kind = kind;
-  skills = skills;
-  companions = companionCells companions;
-  count = length companions;
-  timeline = t;
-  matrix = blankMatrix;
-  last = Nothing;
-}
-
 -- the new resource goes last
 unfoldable pub withNew : Board → Resource → Board
 withNew b r = record { resources = set (b .resources) (b .len) r; len = b .len + 1; transport = b .transport }
@@ -116,18 +65,6 @@ newMatrix default initial = record {
   initial = initial;
   transitions = replicate 256 (negsuc 0);
   initials = replicate 16 (negsuc 0);
-}
-
-abbrev pub withMatrix : TransitionMatrix → Resource → Resource
-withMatrix m r = record {
-  number = r .number;
-  kind = r .kind;
-  skills = r .skills;
-  companions = r .companions;
-  count = r .count;
-  timeline = r .timeline;
-  matrix = m;
-  last = r .last;
 }
 
 unfoldable pub setMatrixReply : Board → ℕ → ℤ → ℤ → Entered
@@ -193,18 +130,6 @@ lookedAt b (at i) = record { refusal = 0; timeline = resourceAt b i .timeline }
 
 unfoldable pub timelineOfReply : Board → ℕ → Looked
 timelineOfReply b number = cond (not (valid b)) (record { refusal = 15; timeline = blankDiary }) (lookedAt b (lookup b number))
-
-abbrev pub withTimeline : ResourceTimeline → Resource → Resource
-withTimeline t r = record {
-  number = r .number;
-  kind = r .kind;
-  skills = r .skills;
-  companions = r .companions;
-  count = r .count;
-  timeline = t;
-  matrix = r .matrix;
-  last = r .last;
-}
 
 -- 15 the board or the diary; 5 not on the board
 unfoldable pub putRefusal : Board → ℕ → ResourceTimeline → ℕ

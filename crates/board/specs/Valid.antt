@@ -8,8 +8,6 @@ use lib.Dec.{leb, ltb, eqb}
 use lib.IntN.{ℤ, pos, negsuc}
 use Rattle.calendar.specs.Limits.{longestDuration}
 use Rattle.cells.specs.Every.{everyFrom}
-use Rattle.calendar.specs.declared.Calendar.{Calendar}
-use Rattle.calendar.specs.Valid as calendar
 use Rattle.timeline.specs.declared.ResourceTimeline.{ResourceTimeline}
 use Rattle.timeline.specs.Valid as timeline
 use Rattle.board.specs.declared.TransitionMatrix.{TransitionMatrix}
@@ -69,16 +67,14 @@ resourceRight r =
     && lastRight (r .last))))
 
 -- a calendar with no windows, no blocks and 0 in every cell
-unfoldable pub calendarBlank : Calendar → Bool
-calendarBlank c = eqb (c .windows .len) 0 && (eqb (c .blocks .len) 0 && calendar.valid c)
-
+-- capacity 0 and nothing in it: no booking, no window, no block, and 0 in every cell
 unfoldable pub diaryBlank : ResourceTimeline → Bool
 diaryBlank t =
     eqb (t .capacity) 0
     && (eqb (t .len) 0
-    && (eqb (t .booked) 0
-    && (calendarBlank (t .calendar)
-    && everyFrom (timeline.emptyAt t) 0 64)))
+    && (eqb (t .calendar .windows .len) 0
+    && (eqb (t .calendar .blocks .len) 0
+    && timeline.contentsRight t)))
 
 unfoldable pub lastBlank : LastCategory → Bool
 lastBlank Nothing = true

@@ -1,11 +1,11 @@
 // A board: resources in board order with their companions, diaries, transition matrices and last categories, and the transport between
 // them (models/resource.rs, models/constraint.rs; 01, setups and transport, and the board of 'Placing'). Its rules are checked by the
 // crate `board_rules`.
-use calendar::Calendar;
 use timeline::ResourceTimeline;
 ghost use mathlib.Core.Path.{_≡_};
 ghost use Rattle.board.specs.Valid.{durationRight, entryRight};
-ghost use Rattle.board.specs.Enter.{blankDiary, blankMatrix, emptyBoard};
+ghost use Rattle.board.specs.Resources.{blankMatrix, blankResource, withLast};
+ghost use Rattle.board.specs.Enter.{emptyBoard};
 
 // A duration, and an entry of a matrix, is at most 2^36.
 const LONGEST: i64 = 68719476736;
@@ -76,23 +76,6 @@ pub fn entry_right(ms: i64) -> bool
     ms <= LONGEST
 }
 
-// The diary of a cell past the length.
-pub fn blank_timeline() -> ResourceTimeline
-    ensures { λ r. ⌜ r ≡ blankDiary ⌝ }
-{
-    let none = Calendar::new();
-    ResourceTimeline {
-        capacity: 0,
-        calendar: none,
-        starts: [0; 64],
-        ends: [0; 64],
-        units: [0; 64],
-        latest: [0; 64],
-        len: 0,
-        booked: 0,
-    }
-}
-
 // No matrix.
 pub fn blank_matrix() -> TransitionMatrix
     ensures { λ r. ⌜ r ≡ blankMatrix ⌝ }
@@ -106,23 +89,49 @@ pub fn blank_matrix() -> TransitionMatrix
     }
 }
 
+// A cell past the length.
+pub fn blank_resource() -> Resource
+    ensures { λ r. ⌜ r ≡ blankResource ⌝ }
+{
+    let none = timeline::blank();
+    let matrix = blank_matrix();
+    Resource {
+        number: 0,
+        kind: 0,
+        skills: 0,
+        companions: [0; 4],
+        count: 0,
+        timeline: none,
+        matrix: matrix,
+        last: LastCategory::Nothing,
+    }
+}
+
+// The resource with another last category.
+pub fn with_last(r: Resource, last: LastCategory) -> Resource
+    ensures { λ x. ⌜ x ≡ withLast last r ⌝ }
+{
+    let companions = r.companions;
+    let timeline = r.timeline;
+    let matrix = r.matrix;
+    Resource {
+        number: r.number,
+        kind: r.kind,
+        skills: r.skills,
+        companions: companions,
+        count: r.count,
+        timeline: timeline,
+        matrix: matrix,
+        last: last,
+    }
+}
+
 impl Board {
     // A board with no resource.
     pub fn new() -> Board
         ensures { λ r. ⌜ r ≡ emptyBoard ⌝ }
     {
-        let none = blank_timeline();
-        let matrix = blank_matrix();
-        let blank = Resource {
-            number: 0,
-            kind: 0,
-            skills: 0,
-            companions: [0; 4],
-            count: 0,
-            timeline: none,
-            matrix: matrix,
-            last: LastCategory::Nothing,
-        };
+        let blank = blank_resource();
         Board {
             resources: [blank; 16],
             len: 0,

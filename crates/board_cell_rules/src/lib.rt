@@ -159,7 +159,7 @@ fn resource_right(r: Resource) -> bool
     last_right(last)
 }
 
-// With a capacity it would be a diary that keeps the rules, without bookings and without a calendar.
+// Capacity 0 and nothing in it, and else the rules of a diary, so that every cell of it is 0.
 fn diary_blank(t: ResourceTimeline) -> bool
     ensures { λ r. ⌜ r ≡ diaryBlank t ⌝ }
 {
@@ -167,9 +167,6 @@ fn diary_blank(t: ResourceTimeline) -> bool
         return false;
     }
     if t.len != 0 {
-        return false;
-    }
-    if t.booked != 0 {
         return false;
     }
     let c = t.calendar;
@@ -181,9 +178,7 @@ fn diary_blank(t: ResourceTimeline) -> bool
     if blocks.len != 0 {
         return false;
     }
-    let mut d = t;
-    d.capacity = 1;
-    timeline::is_valid(d)
+    timeline::contents_right(t)
 }
 
 fn last_blank(last: LastCategory) -> bool

@@ -4,9 +4,10 @@ use mathlib.Core.Path.{_≡_, refl}
 use Prim.Native.Nat.{ℕ}
 use native.Mathlib.Omega.{arith}
 use Rattle.calendar.specs.Search.{Found, nothing, at, isAt}
-use Rattle.board.specs.Enter.{blankDiary, entered, withResource, changed, lookedAt, timelineOfReply, withTimeline, putRefusal, putTimelineReply}
+use Rattle.timeline.specs.Diary.{blankDiary}
+use Rattle.board.specs.Enter.{entered, withResource, changed, lookedAt, timelineOfReply, putRefusal, putTimelineReply}
 use Rattle.board_numbers.specs.Entry.{entryAt, entryFor}
-use Rattle.board.specs.Resources.{resourceAt, lookup, onBoard}
+use Rattle.board.specs.Resources.{withTimeline, resourceAt, lookup, onBoard}
 use Rattle.board.specs.Valid.{valid}
 use Rattle.board.specs.declared.Board.{Board}
 use Rattle.board_numbers.specs.declared.PlaceFor.{PlaceFor}

@@ -12,7 +12,7 @@ pub fn timeline_of(board: Board, number: u8) -> Looked
 {
     let e = board_numbers::entry_for(board, number);
     if e.refusal != 0 {
-        let none = board::blank_timeline();
+        let none = timeline::blank();
         return Looked {
             refusal: e.refusal,
             timeline: none,

@@ -8,8 +8,8 @@ use lib.Dec.{leb}
 use lib.IntN.{ℤ}
 use Rattle.cells.specs.Laws.Basics.{and-join}
 use Rattle.calendar.specs.Search.{at, isAt}
-use Rattle.board.specs.Enter.{entered, withResource, changed, matrixRefusal, newMatrix, withMatrix, setMatrixReply, entryRefusal, matrixOf, withTransition, withInitial, setTransitionReply, setInitialReply}
-use Rattle.board.specs.Resources.{resourceAt, lookup, onBoard}
+use Rattle.board.specs.Enter.{entered, withResource, changed, matrixRefusal, newMatrix, setMatrixReply, entryRefusal, matrixOf, withTransition, withInitial, setTransitionReply, setInitialReply}
+use Rattle.board.specs.Resources.{withMatrix, resourceAt, lookup, onBoard}
 use Rattle.board.specs.Valid.{durationRight, entryRight, valid}
 use Rattle.board.specs.declared.Board.{Board}
 use Rattle.board.specs.declared.TransitionMatrix.{TransitionMatrix}

@@ -2,8 +2,6 @@
 // transport by `board_transport`; diaries are looked up and put back by `board_diaries`.
 use board::Board;
 use board::Entered;
-use board::LastCategory;
-use board::Resource;
 use board_numbers::is_on;
 use timeline::ResourceTimeline;
 ghost use mathlib.Core.Path.{_≡_};
@@ -11,7 +9,8 @@ ghost use Prim.Native.Nat.{_≤_};
 ghost use lib.ListN.{length};
 ghost use lib.Dec.{leb};
 ghost use Rattle.cells.specs.Every.{every};
-ghost use Rattle.board.specs.Enter.{companionCells, addRefusal, addResourceReply};
+ghost use Rattle.board.specs.Resources.{companionCells};
+ghost use Rattle.board.specs.Enter.{addRefusal, addResourceReply};
 
 // Every companion's number is at most 15, however many there are.
 fn numbers_right(companions: &[u8]) -> bool
@@ -89,19 +88,16 @@ pub fn add_resource(
         };
     }
     let cells = companion_cells(companions);
-    let matrix = board::blank_matrix();
+    let mut r = board::blank_resource();
+    r.number = number;
+    r.kind = kind;
+    r.skills = skills;
+    r.companions = cells;
+    r.count = companions.len();
+    r.timeline = timeline;
     let n = board.len;
     let mut b = board;
-    b.resources[n] = Resource {
-        number: number,
-        kind: kind,
-        skills: skills,
-        companions: cells,
-        count: companions.len(),
-        timeline: timeline,
-        matrix: matrix,
-        last: LastCategory::Nothing,
-    };
+    b.resources[n] = r;
     b.len = n + 1;
     Entered {
         refusal: 0,

@@ -1,7 +1,7 @@
 -- 01, 'Window or block': the replies, singly.
 use Prim.Native.Nat.{ℕ, zero, suc, _+_}
 use mathlib.Core.Bool.{not, cond, _||_}
-use mathlib.Core.List.{replicate}
+use mathlib.Core.List.{[], replicate}
 use lib.ListN.{set}
 use lib.Dec.{leb, ltb}
 use Rattle.calendar.specs.Limits.{lastInstant, mostSpans}
@@ -24,6 +24,10 @@ empty = record {
   windows = record { starts = replicate 32 0; ends = replicate 32 0; len = 0 };
   blocks = record { starts = replicate 32 0; ends = replicate 32 0; len = 0 };
 }
+
+-- what is read past an array's end: an array of it has no cell
+abbrev pub noCalendar : Calendar
+noCalendar = record { windows = record { starts = []; ends = []; len = 0 }; blocks = record { starts = []; ends = []; len = 0 } }
 
 -- the spans with [s, e) behind them
 unfoldable pub withSpan : TimeWindows → ℕ → ℕ → TimeWindows

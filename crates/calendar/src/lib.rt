@@ -5,6 +5,7 @@ use limits::LAST_INSTANT;
 ghost use mathlib.Core.Path.{_≡_};
 ghost use mathlib.Core.Bool.{true};
 ghost use Prim.Native.Nat.{_<_};
+ghost use Rattle.cells.specs.Same.{Compares};
 ghost use Rattle.calendar.specs.Valid.{cellRight, spansRight, valid};
 ghost use Rattle.calendar.specs.Add.{addRefusal, withSpan, empty, addWindow, addBlock};
 
@@ -68,6 +69,32 @@ pub fn is_valid(c: Calendar) -> bool
         return false;
     }
     spans_right(c.blocks)
+}
+
+fn same_spans(a: TimeWindows, b: TimeWindows) -> bool
+    ensures { λ r. ⌜ Compares r a b ⌝ }
+{
+    if a.len != b.len {
+        return false;
+    }
+    let s = a.starts;
+    let t = b.starts;
+    if !cells::same(&s, &t) {
+        return false;
+    }
+    let e = a.ends;
+    let f = b.ends;
+    cells::same(&e, &f)
+}
+
+// Whether two calendars are the same, cell by cell.
+pub fn same(a: Calendar, b: Calendar) -> bool
+    ensures { λ r. ⌜ Compares r a b ⌝ }
+{
+    if !same_spans(a.windows, b.windows) {
+        return false;
+    }
+    same_spans(a.blocks, b.blocks)
 }
 
 // The refusal of a span that is to be added to a list of `held`, 0 for none.

@@ -2,14 +2,12 @@
 use mathlib.Core.Path.{_≡_}
 use Prim.Native.Nat.{ℕ, _<_}
 use mathlib.Core.Bool.{true}
-use mathlib.Core.List.{List, []}
+use mathlib.Core.List.{List}
 use lib.ListN.{getD}
 use Rattle.calendar.specs.declared.Calendar.{Calendar}
+use Rattle.calendar.specs.Add.{noCalendar}
 use Rattle.calendar.specs.Valid.{valid}
 
--- each of the first n calendars keeps the rules (the default is what the checker reads past an array's end)
-abbrev pub blank : Calendar
-blank = record { windows = record { starts = []; ends = []; len = 0 }; blocks = record { starts = []; ends = []; len = 0 } }
-
+-- each of the first n calendars keeps the rules
 abbrev pub Ruled : List Calendar → ℕ → Type 0
-Ruled cs n = (k : ℕ) → k < n → valid (getD cs k blank) ≡ true
+Ruled cs n = (k : ℕ) → k < n → valid (getD cs k noCalendar) ≡ true

@@ -4,3 +4,4 @@ pub mod Every
 pub mod Each
 pub mod Arrays
 pub mod Cells
+pub mod Same

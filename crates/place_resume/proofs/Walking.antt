@@ -17,9 +17,9 @@ use Rattle.calendar.specs.Search.{Found, nothing, at, when}
 use Rattle.calendar.specs.Laws.Searching.{not-at}
 use Rattle.calendar.specs.Work.{joint, jointEnd}
 use Rattle.calendar.specs.Valid as calendar
-use Rattle.cells.specs.Cells.{before}
 use Rattle.calendar_work.specs.Layout.{Layout, laid}
-use Rattle.calendar_joint.specs.Layout.{Ruled, blank}
+use Rattle.calendar.specs.Add.{noCalendar}
+use Rattle.calendar_joint.specs.Layout.{Ruled}
 use Rattle.calendar_joint.proofs.Ending.{layout-end}
 use Rattle.timeline.specs.declared.ResourceTimeline.{ResourceTimeline}
 use Rattle.timeline.specs.Valid.{valid}
@@ -83,7 +83,7 @@ module _ (xs : List Share) (n work from : ℕ) (stops : List ℕ) where
     pub start : here ≡ from
     pub begin : next ≡ from
     pub none : free ≡ false
-    pub cells : (k : ℕ) → k < i → getD cs k blank ≡ getD xs k noShare .timeline .calendar
+    pub cells : (k : ℕ) → k < i → getD cs k noCalendar ≡ getD xs k noShare .timeline .calendar
 
   -- it is laid out, and nothing suits before `here`
   pub record Walks (edges : List ℕ) (len here end : ℕ) (free : Bool) (next i : ℕ) : Type 0 where
@@ -100,8 +100,8 @@ module _ (xs : List Share) (n work from : ℕ) (stops : List ℕ) where
     none = g .none;
     cells = λ k h.
         ⊎-elim
-        (λ (e : i ≡ k). rw (← e) (getD-set-same cs i _ blank l))
-        (λ (e : k ≡ i → ⊥). getD-set-other cs i k _ blank e ∙ g .cells k (omega (arith, e)))
+        (λ (e : i ≡ k). rw (← e) (getD-set-same cs i _ noCalendar l))
+        (λ (e : k ≡ i → ⊥). getD-set-other cs i k _ noCalendar e ∙ g .cells k (omega (arith, e)))
         (same-or-not i k);
   }
 
@@ -111,7 +111,7 @@ module _ (xs : List Share) (n work from : ℕ) (stops : List ℕ) where
     gathers-ruled cs here free next i g l k h = ap calendar.valid (g .cells k (omega arith)) ∙ rules _ (each-at (λ x. valid (x .timeline) ≡ true) noShare xs sound k (omega (arith, long))) .calendar
 
     gathers-all : (cs : List Calendar) (here : ℕ) (free : Bool) (next i : ℕ) → Gathers cs here free next i → n ≤ i → n ≤ length cs → take n cs ≡ map calendarOf xs
-    gathers-all cs here free next i g l m = cells-map calendarOf noShare blank n xs cs (omega (arith, long)) m (λ k h. g .cells k (omega arith)) ∙ ap (map calendarOf) (take-all n xs (omega (arith, long)))
+    gathers-all cs here free next i g l m = cells-map calendarOf noShare noCalendar n xs cs (omega (arith, long)) m (λ k h. g .cells k (omega arith)) ∙ ap (map calendarOf) (take-all n xs (omega (arith, long)))
 
     -- an instant to try, with no diary asked
     walks-begin : (edges : List ℕ) (len here end : ℕ) (free : Bool) → len ≤ 3201 → Layout (λ p. leb from p && joint (map calendarOf xs) p) edges len → Sought (suitsOn true xs work) from here

@@ -3,11 +3,10 @@ use Prim.Native.Nat.{ℕ, suc, _+_, zero}
 use mathlib.Core.Bool.{Bool, cond, true, false}
 use Rattle.calendar.specs.Search.{Found}
 use Rattle.timeline.specs.Earliest.{earliestFit, earliestResumable}
-use Rattle.board.specs.Resources.{noDiary}
 use Rattle.scheduler.specs.Alone.{Share}
 use mathlib.Core.List.{[]}
 use Rattle.calendar.specs.declared.Calendar.{Calendar}
-use Rattle.timeline.specs.Diary.{diary}
+use Rattle.timeline.specs.Diary.{diary, noDiary}
 
 -- the least start on one share, unbroken or resumable
 unfoldable pub startOn : Bool → ℕ → Share → ℕ → Found

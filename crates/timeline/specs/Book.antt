@@ -3,12 +3,11 @@ use Prim.Native.Nat.{ℕ, zero, suc}
 use mathlib.Core.Bool.{not, cond, _||_}
 use lib.Dec.{leb, ltb}
 use Rattle.calendar.specs.Limits.{lastInstant, mostUnits, mostBookings}
-use Rattle.calendar.specs.declared.Calendar.{Calendar}
 use Rattle.calendar.specs.declared.Added.{Added}
 use Rattle.timeline.specs.declared.ResourceTimeline.{ResourceTimeline}
 use Rattle.timeline.specs.declared.Booked.{Booked}
-use Rattle.timeline.specs.Bookings.{bookings}
-use Rattle.timeline.specs.Diary.{insertBooking, diary}
+use Rattle.timeline.specs.Bookings.{booking, bookings}
+use Rattle.timeline.specs.Diary.{insertBooking, withBookings, withCalendar}
 use Rattle.timeline.specs.Valid.{valid}
 
 -- the number that refuses a booking: 15 before all else; 1 instant; 2 end ≤ start; 3 units outside 1 to 10,000; 4 a 65th; 0 for none
@@ -27,23 +26,10 @@ taken (suc n) t more = record { refusal = suc n; timeline = t }
 
 -- the diary with one booking more
 abbrev pub withBooking : ResourceTimeline → ℕ → ℕ → ℕ → ResourceTimeline
-withBooking t s e u = diary (t .capacity) (t .calendar) (insertBooking (record { start = s; end = e; units = u }) (bookings t))
+withBooking t s e u = withBookings t (insertBooking (booking s e u) (bookings t))
 
 unfoldable pub bookReply : ResourceTimeline → ℕ → ℕ → ℕ → Booked
 bookReply t s e u = taken (bookRefusal t s e u) t (withBooking t s e u)
-
--- the diary with another calendar
-unfoldable pub withCalendar : ResourceTimeline → Calendar → ResourceTimeline
-withCalendar t c = record {
-  capacity = t .capacity;
-  calendar = c;
-  starts = t .starts;
-  ends = t .ends;
-  units = t .units;
-  latest = t .latest;
-  len = t .len;
-  booked = t .booked;
-}
 
 -- a window or a block on the diary's calendar
 unfoldable pub calendarReply : ResourceTimeline → Added → Booked

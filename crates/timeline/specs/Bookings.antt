@@ -12,8 +12,12 @@ pub record Booking : Type 0 where
   pub end : ℕ
   pub units : ℕ
 
+-- so many units from a start to an end
+abbrev pub booking : ℕ → ℕ → ℕ → Booking
+booking s e u = record { start = s; end = e; units = u }
+
 abbrev pub bookingAt : List ℕ → List ℕ → List ℕ → ℕ → Booking
-bookingAt ss es us i = record { start = getD ss i 0; end = getD es i 0; units = getD us i 0 }
+bookingAt ss es us i = booking (getD ss i 0) (getD es i 0) (getD us i 0)
 
 -- the bookings of the first n cells
 unfoldable pub bookingsTo : List ℕ → List ℕ → List ℕ → ℕ → List Booking

@@ -40,6 +40,9 @@ emptyFrom t i k = everyFrom (emptyAt t) i k
 abbrev pub cellsRight : ResourceTimeline → Bool
 cellsRight t = filledFrom t 0 (t .len) && (emptyFrom t (t .len) (64 - t .len) && eqb (t .booked) (total (bookings t)))
 
+-- the rules but for the capacity's: its calendar, its length and its cells
+unfoldable pub contentsRight : ResourceTimeline → Bool
+contentsRight t = calendar.valid (t .calendar) && (leb (t .len) mostBookings && cellsRight t)
+
 unfoldable pub valid : ResourceTimeline → Bool
-valid t =
-    calendar.valid (t .calendar) && (leb 1 (t .capacity) && (ltb (t .capacity) (2 ^ 31) && (leb (t .len) mostBookings && cellsRight t)))
+valid t = leb 1 (t .capacity) && (ltb (t .capacity) (2 ^ 31) && contentsRight t)

@@ -5,14 +5,17 @@ use calendar::limits::LAST_INSTANT;
 use calendar::limits::MOST_UNITS;
 
 mod insert;
+pub mod same;
 
 ghost use mathlib.Core.Path.{_≡_};
 ghost use mathlib.Core.Bool.{true, _&&_};
 ghost use Prim.Native.Nat.{_-_, _^_, _≤_, _<_};
-ghost use Rattle.timeline.specs.Valid.{cellRight, cellEmpty, filledFrom, emptyFrom, cellsRight, valid};
+ghost use Rattle.timeline.specs.Valid.{cellRight, cellEmpty, filledFrom, emptyFrom, cellsRight, contentsRight, valid};
 ghost use Rattle.timeline.specs.Bookings.{bookings, total};
 ghost use lib.Dec.{eqb};
-ghost use Rattle.timeline.specs.Diary.{capacityOf, newDiary};
+ghost use mathlib.Core.List.{[]};
+ghost use Rattle.calendar.specs.Add as calendar;
+ghost use Rattle.timeline.specs.Diary.{capacityOf, diary, newDiary, blankDiary};
 ghost use Rattle.timeline.specs.Book.{bookReply, bookRefusal};
 
 // 01: diary. The booking in cell i is starts[i], ends[i], units[i], and latest[i] the latest end of cells 0 to i (the Rust's
@@ -123,17 +126,11 @@ fn cells_right(t: ResourceTimeline) -> bool
     empty(t)
 }
 
-// The diary keeps the rules.
-pub fn is_valid(t: ResourceTimeline) -> bool
-    ensures { λ r. ⌜ r ≡ valid t ⌝ }
+// The diary keeps the rules but for the capacity's.
+pub fn contents_right(t: ResourceTimeline) -> bool
+    ensures { λ r. ⌜ r ≡ contentsRight t ⌝ }
 {
     if !calendar::is_valid(t.calendar) {
-        return false;
-    }
-    if t.capacity < 1 {
-        return false;
-    }
-    if t.capacity >= 2147483648 {
         return false;
     }
     if t.len > 64 {
@@ -142,11 +139,48 @@ pub fn is_valid(t: ResourceTimeline) -> bool
     cells_right(t)
 }
 
+// The diary keeps the rules.
+pub fn is_valid(t: ResourceTimeline) -> bool
+    ensures { λ r. ⌜ r ≡ valid t ⌝ }
+{
+    if t.capacity < 1 {
+        return false;
+    }
+    if t.capacity >= 2147483648 {
+        return false;
+    }
+    contents_right(t)
+}
+
 // A given capacity, and at least 1.
 fn capacity_of(given: i32) -> u32
     ensures { λ r. ⌜ (r ≡ capacityOf given) × (1 ≤ r) × (r < 2 ^ 31) ⌝ }
 {
     if given > 1 { given as u32 } else { 1 }
+}
+
+// A diary without bookings and without a calendar.
+fn unbooked(capacity: u32) -> ResourceTimeline
+    ensures { λ r. ⌜ r ≡ diary capacity calendar.empty [] ⌝ }
+{
+    let none = Calendar::new();
+    ResourceTimeline {
+        capacity: capacity,
+        calendar: none,
+        starts: [0; 64],
+        ends: [0; 64],
+        units: [0; 64],
+        latest: [0; 64],
+        len: 0,
+        booked: 0,
+    }
+}
+
+// 0 throughout, its capacity too: the diary of a cell past the length of a board.
+pub fn blank() -> ResourceTimeline
+    ensures { λ r. ⌜ r ≡ blankDiary ⌝ }
+{
+    unbooked(0)
 }
 
 // The number that refuses a booking, 0 for none.
@@ -183,17 +217,7 @@ impl ResourceTimeline {
         ensures { λ r. ⌜ (r ≡ newDiary given) × (valid r ≡ true) ⌝ }
     {
         let capacity = capacity_of(given);
-        let none = Calendar::new();
-        ResourceTimeline {
-            capacity: capacity,
-            calendar: none,
-            starts: [0; 64],
-            ends: [0; 64],
-            units: [0; 64],
-            latest: [0; 64],
-            len: 0,
-            booked: 0,
-        }
+        unbooked(capacity)
     }
 
     // Books, or refuses: 15 a diary that breaks the rules, 1 an instant, 2 end at or before start, 3 units, 4 a 65th.

@@ -12,7 +12,7 @@ use Rattle.calendar.specs.Spans.{Span, spans}
 use Rattle.timeline_loader.specs.declared.TimeWindow.{TimeWindow}
 use Rattle.timeline.specs.declared.ResourceTimeline.{ResourceTimeline}
 use Rattle.timeline.specs.Valid as timeline
-use Rattle.timeline.specs.Book.{withCalendar}
+use Rattle.timeline.specs.Diary.{withCalendar}
 
 -- the list that a record is added to, windows or blocks
 abbrev pub listOf : Bool → Calendar → TimeWindows

@@ -11,16 +11,16 @@ use Rattle.cells.specs.Laws.Basics.{and-split, same-or-not}
 use Rattle.calendar.specs.Search.{Found, nothing, at, isAt}
 use Rattle.calendar.specs.Laws.Searching.{least-same}
 use Rattle.cells.specs.Every.{everyFrom}
-use Rattle.board.specs.Enter.{blankResource, withResource, changed}
-use Rattle.board.specs.Resources.{noResource, resourceAt, numberAt, lookupTo, lookup, onBoard}
-use Rattle.board.specs.Valid.{isZero, matrixRight, companionsRight, resourceRight, calendarBlank, diaryBlank, lastBlank, resourceBlank, transportCell, transportRight, valid}
+use Rattle.board.specs.Enter.{withResource, changed}
+use Rattle.board.specs.Resources.{blankResource, noResource, resourceAt, numberAt, lookupTo, lookup, onBoard}
+use Rattle.board.specs.Valid.{isZero, matrixRight, companionsRight, resourceRight, diaryBlank, lastBlank, resourceBlank, transportCell, transportRight, valid}
 use Rattle.board.specs.declared.Board.{Board}
 use Rattle.board.specs.declared.Resource.{Resource}
 use Rattle.board.specs.Laws.Facts.{rules, ruled}
 use Rattle.board.specs.Laws.Seeing.{lookup-below}
 use Rattle.calendar.specs.Add.{empty}
-use Rattle.calendar.specs.Valid as calendar
-use Rattle.timeline.specs.Valid as timeline
+use Rattle.timeline.specs.Diary.{diary}
+use Rattle.timeline.specs.Laws.Keeping as timeline
 
 -- two boards with the same numbers
 pub lookup-same : (b c : Board) (n number : ℕ) → ((k : ℕ) → k < n → numberAt c k ≡ numberAt b k) → lookupTo c n number ≡ lookupTo b n number
@@ -91,6 +91,5 @@ changed-keeps b number g long v f = go (lookup b number) refl
 
 -- a board with no resource keeps the rules
 pub blank-right : resourceBlank blankResource ≡ true
-unfolding resourceBlank companionsRight diaryBlank calendarBlank calendar.valid calendar.spansRight calendar.cellRight empty
-    timeline.cellEmpty matrixRight isZero lastBlank everyFrom
-blank-right = refl
+unfolding resourceBlank companionsRight diaryBlank diary empty matrixRight isZero lastBlank everyFrom
+blank-right = rw timeline.blank-right refl

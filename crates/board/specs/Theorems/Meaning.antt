@@ -9,7 +9,7 @@ use lib.IntN.{ℤ, pos, negsuc}
 use lib.ListN.{getD, getD-replicate}
 use Rattle.cells.specs.Laws.Basics.{and-split}
 use Rattle.calendar.specs.Search.{at, leastFrom, isAt}
-use Rattle.board.specs.Resources.{resourceAt, numberAt, lookupTo, lookup, onBoard, noResource}
+use Rattle.board.specs.Resources.{blankResource, resourceAt, numberAt, lookupTo, lookup, onBoard, noResource}
 use Rattle.board.specs.Setups.{entryOr, matrixSetup, setupMs}
 use Rattle.calendar.specs.Sets.{bit}
 use Rattle.board.specs.Transport.{greatestTransport, transportTo}
@@ -27,7 +27,7 @@ use Rattle.board.specs.Laws.Masks.{greatest-none, greatest-next}
 use Rattle.board.specs.Laws.Seeing.{lookup-below, lookup-number, nothing-of}
 use Rattle.calendar.specs.Laws.Searching.{least-none, least-is}
 use Rattle.timeline.specs.Valid as timeline
-use Rattle.board.specs.Enter.{blankResource, emptyBoard}
+use Rattle.board.specs.Enter.{emptyBoard}
 use Rattle.board.specs.Laws.Keeping.{blank-right}
 
 -- on a valid board a resource stands where its number is looked up

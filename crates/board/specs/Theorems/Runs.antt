@@ -9,11 +9,12 @@ use Rattle.board.specs.declared.TransitionMatrix.{TransitionMatrix}
 use Rattle.board.specs.declared.LastCategory.the-variants.{Nothing, Category}
 use Rattle.board.specs.declared.Resource.{Resource}
 use Rattle.board.specs.declared.Board.{Board}
-use Rattle.board.specs.Resources.{lookupTo}
+use Rattle.timeline.specs.Diary.{blankDiary}
+use Rattle.board.specs.Resources.{blankMatrix, newResource, lookupTo}
 use Rattle.board.specs.Setups.{entryOr, matrixSetup, setupMs}
 use Rattle.calendar.specs.Sets.{bit}
 use Rattle.board.specs.Transport.{placesFrom, greatestTransport, transportTo}
-use Rattle.board.specs.Enter.{blankMatrix, blankResource, newMatrix, withTransition, withInitial}
+use Rattle.board.specs.Enter.{newMatrix, withTransition, withInitial}
 
 -- default 7, initial 9; the pair (1, 2) is 5, the first entry of 3 is 4, and every other entry is absent
 abbrev pub matrix : TransitionMatrix
@@ -34,16 +35,7 @@ unfolding entryOr matrixSetup setupMs
 setups = refl
 
 abbrev pub numbered : ℕ → Resource
-numbered n = record {
-  number = n;
-  kind = 0;
-  skills = 0;
-  companions = replicate 4 0;
-  count = 0;
-  timeline = blankResource .timeline;
-  matrix = blankMatrix;
-  last = Nothing;
-}
+numbered n = newResource n 0 0 [] blankDiary
 
 -- resources 2, 0 and 1 in board order; transport to 2: 30 from 0, 40 from 1
 abbrev pub three : Board

@@ -1,29 +1,19 @@
--- `board_cell_rules::diary_blank` meets its contract: without bookings a diary keeps the rules if its calendar does and its cells are empty.
+-- `board_cell_rules::diary_blank` meets its contract: each return rewrites with the tests on its way.
 use borrow.Author.Needs.{needs}
 use borrow.Author.Tests.{eq-eqb, ne-eqb}
-use mathlib.Core.Path.{_≡_, refl, _∙_}
-use mathlib.Core.Bool.{Bool, true, _&&_, and-true}
-use Prim.Native.Nat.{ℕ}
-use Rattle.cells.specs.Every.{everyFrom}
-use Rattle.calendar.specs.Valid as calendar
-use Rattle.timeline.specs.declared.ResourceTimeline.{ResourceTimeline}
-use Rattle.timeline.specs.Bookings.{bookingsTo, total}
-use Rattle.timeline.specs.Valid.{emptyAt, valid}
-use Rattle.board.specs.Valid.{calendarBlank, diaryBlank}
+use Rattle.board.specs.Valid.{diaryBlank}
 use Rattle.board_cell_rules.proofs.diary_blank.Statement.{statement}
 use Rattle.board_cell_rules.proofs.diary_blank.Tie as tie
 
--- the diary with a capacity of 1
-abbrev one : ResourceTimeline → ResourceTimeline
-one t = record { capacity = 1; calendar = t .calendar; starts = t .starts; ends = t .ends; units = t .units; latest = t .latest; len = t .len; booked = t .booked }
+-- the places behind each test, each from the next
+abbrev no-capacity : tie.Else2 → tie.Else1
+no-capacity c = c .before .before
 
-none : (P : ℕ → Bool) → everyFrom P 0 0 ≡ true
-unfolding everyFrom
-none P = refl
+abbrev no-bookings : tie.Else3 → tie.Else2
+no-bookings c = c .before .before .before .before
 
-without-bookings : (t : ResourceTimeline) → t .len ≡ 0 → t .booked ≡ 0 → valid (one t) ≡ calendar.valid (t .calendar) && everyFrom (emptyAt t) 0 64
-unfolding valid bookingsTo total
-without-bookings t l b = rw (l, b, none _, and-true (everyFrom (emptyAt t) 0 64)) refl
+abbrev no-windows : tie.Else4 → tie.Else3
+no-windows c = c .before .before .before
 
 returns : tie.Need-returns
 unfolding diaryBlank
@@ -35,31 +25,27 @@ returns-2 c = simp (eq-eqb _ _ (c .before .before .if1 .left), ne-eqb _ _ (c .if
 
 returns-3 : tie.Need-returns-3
 unfolding diaryBlank
-returns-3 c = simp (eq-eqb _ _ (c .before .before .before .before .if1 .left), eq-eqb _ _ (c .before .before .if2 .left), ne-eqb _ _ (c .if3 .taken))
+returns-3 c =
+    let d = c .before .before .before .before in
+    simp (eq-eqb _ _ (no-capacity d .if1 .left), eq-eqb _ _ (d .if2 .left), ne-eqb _ _ (c .if3 .taken))
 
 returns-4 : tie.Need-returns-4
-unfolding diaryBlank calendarBlank
+unfolding diaryBlank
 returns-4 c =
-    simp
-    (eq-eqb _ _ (c .before .before .before .before .before .before .before .before .if1 .left), eq-eqb _ _ (c .before .before .before .before .before .before .if2 .left), eq-eqb _ _ (c .before .before .before .before .if3 .left), ne-eqb _ _ (c .if4 .taken))
+    let e = c .before .before .before in
+    let d = no-bookings e in
+    simp (eq-eqb _ _ (no-capacity d .if1 .left), eq-eqb _ _ (d .if2 .left), eq-eqb _ _ (e .if3 .left), ne-eqb _ _ (c .if4 .taken))
+
+contents-right-requires : tie.Need-contents-right-requires
+contents-right-requires c κs = search needs
 
 returns-5 : tie.Need-returns-5
-unfolding diaryBlank calendarBlank
+unfolding diaryBlank
 returns-5 c =
-    simp
-    (eq-eqb _ _ (c .before .before .before .before .before .before .before .before .before .before .before .if1 .left), eq-eqb _ _ (c .before .before .before .before .before .before .before .before .before .if2 .left), eq-eqb _ _ (c .before .before .before .before .before .before .before .if3 .left), eq-eqb _ _ (c .before .before .before .if4 .left), ne-eqb _ _ (c .if5 .taken))
-
-is-valid-requires : tie.Need-is-valid-requires
-is-valid-requires c κs = search needs
-
-returns-6 : tie.Need-returns-6
-unfolding diaryBlank calendarBlank
-returns-6 c =
-    let t = c .before .before .before .before .before .before .before .before .before .before .before .before .before .before .args .t in
-    rw (eq-eqb _ _ (c .before .before .before .before .before .before .before .before .before .before .before .before .if1 .left), eq-eqb _ _ (c .before .before .before .before .before .before .before .before .before .before .if2 .left), eq-eqb _ _ (c .before .before .before .before .before .before .before .before .if3 .left), eq-eqb _ _ (c .before .before .before .before .if4 .left), eq-eqb _ _ (c .before .if5 .left))
-    (c .is-valid .ensures ∙ without-bookings t (c .before .before .before .before .before .before .before .before .before .before .if2 .left) (c .before .before .before .before .before .before .before .before .if3 .left))
+    let e = no-windows (c .before) in
+    let d = no-bookings e in
+    rw (eq-eqb _ _ (no-capacity d .if1 .left), eq-eqb _ _ (d .if2 .left), eq-eqb _ _ (e .if3 .left), eq-eqb _ _ (c .before .if4 .left))
+    (c .contents-right .ensures)
 
 pub diary-blank-spec : {M : Type 1} → statement M
-diary-blank-spec =
-    tie.close
-    (tie.spec returns returns-2 returns-3 returns-4 returns-5 is-valid-requires returns-6)
+diary-blank-spec = tie.close (tie.spec returns returns-2 returns-3 returns-4 contents-right-requires returns-5)

@@ -9,11 +9,11 @@ use Rattle.board_diaries.proofs.timeline_of.Tie as tie
 entry-for-requires : tie.Need-entry-for-requires
 entry-for-requires c κs = search needs
 
-blank-timeline-requires : tie.Need-blank-timeline-requires
-blank-timeline-requires c κs = search needs
+blank-requires : tie.Need-blank-requires
+blank-requires c κs = search needs
 
 returns : tie.Need-returns
-returns c = looked-refused _ _ _ _ (c .before .before .before .entry-for .ensures) (c .before .if1 .taken) (c .blank-timeline .ensures)
+returns c = looked-refused _ _ _ _ (c .before .before .before .entry-for .ensures) (c .before .if1 .taken) (c .blank .ensures)
 
 mul-r : tie.Need-mul-r
 mul-r c =
@@ -33,4 +33,4 @@ returns-2 c =
 pub timeline-of-spec : {M : Type 1} → statement M
 timeline-of-spec =
     tie.close
-    (tie.spec entry-for-requires blank-timeline-requires returns mul-r element-copy-out-r returns-2)
+    (tie.spec entry-for-requires blank-requires returns mul-r element-copy-out-r returns-2)

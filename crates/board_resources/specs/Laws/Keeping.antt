@@ -13,8 +13,8 @@ use lib.ListN.{length, getD, set, replicate, getD-replicate, List·getD-append}
 use lib.Seq.{getD-set-same, getD-set-other, set-out, getD-append-add}
 use Rattle.cells.specs.Laws.Basics.{and-split, and-join, lt-or-ge, same-or-not, unrefused}
 use Rattle.calendar.specs.Search.{Found, nothing, at, isAt}
-use Rattle.board.specs.Enter.{entered, companionCells, newResource, withNew, newMatrix, withMatrix, matrixOf, withTransition, withInitial, withTransport, withTimeline}
-use Rattle.board.specs.Resources.{noResource, resourceAt, numberAt, lookupTo, onBoard}
+use Rattle.board.specs.Enter.{entered, withNew, newMatrix, matrixOf, withTransition, withInitial, withTransport}
+use Rattle.board.specs.Resources.{companionCells, newResource, withMatrix, withTimeline, noResource, resourceAt, numberAt, lookupTo, onBoard}
 use Rattle.board.specs.Valid.{durationRight, entryRight, isZero, matrixRight, companionsRight, lastRight, resourceRight, resourceBlank, transportRight, valid}
 use Rattle.board.specs.declared.Board.{Board}
 use Rattle.board.specs.declared.Resource.{Resource}

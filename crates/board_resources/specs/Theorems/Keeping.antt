@@ -8,8 +8,8 @@ use lib.Dec.{leb}
 use lib.IntN.{ℤ}
 use lib.ListN.{length}
 use Rattle.cells.specs.Laws.Basics.{and-split, unrefused}
-use Rattle.board.specs.Enter.{newResource, addResourceReply, matrixRefusal, newMatrix, withMatrix, setMatrixReply, entryRefusal, setTransitionReply, setInitialReply, setTransportReply, withTimeline, putRefusal, putTimelineReply}
-use Rattle.board.specs.Resources.{resourceAt, onBoard}
+use Rattle.board.specs.Enter.{addResourceReply, matrixRefusal, newMatrix, setMatrixReply, entryRefusal, setTransitionReply, setInitialReply, setTransportReply, putRefusal, putTimelineReply}
+use Rattle.board.specs.Resources.{newResource, withMatrix, withTimeline, resourceAt, onBoard}
 use Rattle.board.specs.Valid.{durationRight, entryRight, valid}
 use Rattle.board.specs.declared.Board.{Board}
 use Rattle.board.specs.Laws.Facts.{rules}

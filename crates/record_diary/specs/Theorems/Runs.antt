@@ -12,10 +12,10 @@ use Rattle.calendar.specs.Work.{latest, lastChange}
 use Rattle.calendar.specs.Add.{empty}
 use Rattle.timeline.specs.Bookings.{bookingsTo, total, latestEnd}
 use Rattle.cells.specs.Cells.{before}
-use Rattle.timeline.specs.Valid.{cellRight, cellEmpty, valid}
+use Rattle.timeline.specs.Valid.{cellRight, cellEmpty, contentsRight, valid}
 use Rattle.timeline.specs.Free.{overlaps, onAt, tally, load, free}
 use Rattle.timeline.specs.Earliest.{fitsAt, lastEvent, earliestFit}
-use Rattle.timeline.specs.Diary.{capacityOf, insertBooking, latestEnds, diary}
+use Rattle.timeline.specs.Diary.{capacityOf, insertByStart, latestEnds, diary}
 use Rattle.timeline.specs.Book.{bookRefusal, taken, bookReply}
 use Rattle.timeline.specs.Ask.{unbroken, askRefusal, asked}
 use Rattle.calendar.specs.Refusals.{refusedOr}
@@ -36,7 +36,7 @@ pub example : slot
     ++ ((5 ∷ (low 7 50 ++ (low 7 50 ++ low 3 1))) ++ (5 ∷ (low 7 50 ++ (low 7 51 ++ low 3 1)))))
     ≡ 102 ∷ 105 ∷ 116 ∷ 32 ∷ 53 ∷ 48 ∷ 32 ∷ 49 ∷ 48 ∷ 48 ∷ 10 ∷ 102 ∷ 105 ∷ 116 ∷ 32 ∷ 50 ∷ 48 ∷ 48 ∷ 32 ∷ 50 ∷ 53 ∷ 49 ∷ 10 ∷ []
 unfolding leastFrom spansFrom any holds meets calendar.cellRight everyFrom calendar.spansRight calendar.valid openFor fits latest lastChange
-    empty bookingsTo total latestEnd before cellRight cellEmpty valid overlaps onAt tally load free fitsAt lastEvent earliestFit capacityOf
-    insertBooking latestEnds diary bookRefusal taken bookReply unbroken askRefusal refusedOr asked little decimalTo textOf diaryLen books
+    empty bookingsTo total latestEnd before cellRight cellEmpty contentsRight valid overlaps onAt tally load free fitsAt lastEvent earliestFit capacityOf
+    insertByStart latestEnds diary bookRefusal taken bookReply unbroken askRefusal refusedOr asked little decimalTo textOf diaryLen books
     asks recordDoes turnReply goOn streamFrom slot greatestOf
 example = refl

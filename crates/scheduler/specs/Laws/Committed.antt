@@ -13,11 +13,12 @@ use Rattle.calendar.specs.Limits.{lastInstant, mostUnits}
 use Rattle.cells.specs.Laws.Basics.{and-split, and-join, lt-or-ge, same-or-not, unrefused, or-left, or-right}
 use Rattle.calendar.specs.Search.{Found, nothing, at, when, isAt}
 use Rattle.timeline.specs.declared.ResourceTimeline.{ResourceTimeline}
-use Rattle.timeline.specs.Bookings.{Booking, bookings, times}
-use Rattle.timeline.specs.Diary.{insertBooking, diary}
+use Rattle.timeline.specs.Bookings.{booking, Booking, bookings, times}
+use Rattle.timeline.specs.Diary.{insertByStart, insertBooking, diary}
 use Rattle.timeline.specs.Laws.Rules as timeline-rules
 use Rattle.timeline.specs.Laws.Rows.{count}
-use Rattle.timeline.specs.Laws.Keeping.{booked-keeps, length-inserted, bookings-diary}
+use Rattle.timeline.specs.Laws.Inserting.{length-inserted}
+use Rattle.timeline.specs.Laws.Keeping.{booked-keeps, bookings-diary}
 use Rattle.cells.specs.Every.{every, Each, each-end, each-on}
 use Rattle.board.specs.declared.LastCategory.the-variants.{Category}
 use Rattle.board.specs.declared.Resource.{Resource}
@@ -76,7 +77,7 @@ module _ (start end category : ℕ) where
 
 -- a booking more: every booking is kept
 inserted-more : (x b : Booking) (xs : List Booking) → times b xs ≤ times b (insertBooking x xs)
-unfolding times insertBooking
+unfolding times insertByStart
 inserted-more x b [] = omega arith
 inserted-more x b (y ∷ ys) = go (leb (y .start) (x .start)) (inserted-more x b ys)
   where
@@ -106,7 +107,7 @@ module _ (start end category : ℕ) where
   pub booked-framed : (l : Line) (r : Resource) → Framed r (booked start end category l r)
   unfolding booked diary
   booked-framed l r =
-      let x : Booking = record { start = start; end = end; units = l .units } in
+      let x = booking start end (l .units) in
       let t = r .timeline in
       record {
         number-same = refl;
@@ -154,7 +155,7 @@ module _ (start end category : ℕ) where
 -- a booking makes a diary longer by one
 longer : (t : ResourceTimeline) (start end u : ℕ) → withBooking t start end u .len ≡ t .len + 1
 unfolding diary
-longer t start end u = omega (arith, length-inserted (record { start = start; end = end; units = u }) (bookings t), count t)
+longer t start end u = omega (arith, length-inserted (λ b. b .start) (booking start end u) (bookings t), count t)
 
 -- an entry for a resource on the board, with units in range
 pub record BookableLine (b : Board) (l : Line) : Type 0 where
@@ -180,7 +181,7 @@ module _ (start end category : ℕ) (w : Bookable start end category) where
   unfolding booked board.resourceRight
   booked-right l r some few h room =
       let k = resource-rules r h in
-      let t = booked-keeps (r .timeline) (record { start = start; end = end; units = l .units }) (k .timeline) room (record { order = w .order; range = w .range; some = some; few = few; sorted = omega arith }) in
+      let t = booked-keeps (r .timeline) (booking start end (l .units)) (k .timeline) room (record { order = w .order; range = w .range; some = some; few = few; sorted = omega arith }) in
       let h1 = and-split (leb (r .number) 15) _ h in
       let h2 = and-split (board.companionsRight (r .companions) (r .count)) _ (h1 .1) in
       and-join _ _ (h1 .0) (and-join _ _ (h2 .0) (and-join _ _ t (and-join _ _ (k .matrix) (last-right r (l .companion) category (w .category-range) (k .last)))))

@@ -19,7 +19,7 @@ use Rattle.timeline.specs.Bookings.{bookingsTo, total, latestEnd}
 use Rattle.timeline.specs.Valid as timeline
 use Rattle.timeline.specs.Free.{overlaps, onAt, tally, load, free}
 use Rattle.timeline.specs.Earliest.{fitsAt, freeTo, startsAt, lastEvent, earliestFit, earliestResumable}
-use Rattle.timeline.specs.Diary.{insertBooking, latestEnds, diary}
+use Rattle.timeline.specs.Diary.{insertByStart, latestEnds, diary}
 use Rattle.timeline.specs.Book.{bookRefusal, taken, bookReply}
 use Rattle.timeline.specs.Ask as asking
 use Rattle.activity.specs.declared.ResourceTiming.the-variants.{Nothing}
@@ -39,7 +39,7 @@ use Rattle.board.specs.Resources as resources
 use Rattle.board.specs.Setups.{entryOr, matrixSetup, setupMs}
 use Rattle.board.specs.Transport as transport
 use Rattle.board.specs.Valid as board
-use Rattle.board.specs.Enter.{blankResource, newResource}
+use Rattle.board.specs.Resources.{blankResource, newResource}
 use Rattle.scheduler.specs.Alone.{canStart, allStart, lastOf, earliestOf, resourceIn, withCompanions, durationAlone, spanOf, arrival, startWith, startAlone}
 use Rattle.scheduler.specs.Choosing.{sooner, insertBy, sortInto, answer, candidates, holdFirst, behind, round, greatestStart, settle, rounds, choosing}
 use Rattle.scheduler.specs.declared.Entry.{Entry}
@@ -165,12 +165,12 @@ replies =
 pub runs : map run marked ≡ replies
 unfolding run eq le mul div ofInt leastFrom spansFrom any holds meets contains calendar.cellRight everyFrom calendar.spansRight
     calendar.valid openFor fits working joint endFrom workEnd latest lastChange empty bookingsTo total latestEnd before timeline.cellRight
-    timeline.cellEmpty timeline.valid overlaps onAt tally load free fitsAt freeTo startsAt lastEvent earliestFit earliestResumable
-    insertBooking latestEnds diary bookRefusal taken bookReply asking.unbroken asking.ended asking.resumed asking.askRefusal asking.asked
+    timeline.cellEmpty timeline.contentsRight timeline.valid overlaps onAt tally load free fitsAt freeTo startsAt lastEvent earliestFit earliestResumable
+    insertByStart latestEnds diary bookRefusal taken bookReply asking.unbroken asking.ended asking.resumed asking.askRefusal asking.asked
     halfUp roundAway processAt isSpeed greatest product durationOn bit covers candidate serves readyOf every releaseRight short quantity
     quantitiesRight usageRight timesRight activityRefusal resources.lookupTo isAt entryOr matrixSetup setupMs transport.placesFrom
     transport.greatestTransport board.durationRight board.entryRight board.isZero board.matrixRight board.companionsRight board.lastRight
-    board.resourceRight board.calendarBlank board.diaryBlank board.lastBlank board.resourceBlank board.cellRight board.transportRight
+    board.resourceRight board.diaryBlank board.lastBlank board.resourceBlank board.cellRight board.transportRight
     board.valid canStart allStart lastOf earliestOf resourceIn withCompanions durationAlone spanOf arrival startAlone startWith sooner
     insertBy sortInto answer candidates holdFirst behind round greatestStart settle rounds choosing durationTogether greatestSetup among
     joinEach allCompanions companionEntries entriesOf spanTogether fitsAll allFree freeToEnd startsAll suits lastAll fitting endOf ended
@@ -197,12 +197,12 @@ pub companion-joins :
     ≡ placed 0 0 100 (entry 0 ∷ record { number = 1; setup = 0; units = 1; companion = true } ∷ [])
 unfolding eq le mul div ofInt leastFrom spansFrom any holds meets contains calendar.cellRight everyFrom calendar.spansRight calendar.valid
     openFor fits working joint endFrom workEnd latest lastChange empty bookingsTo total latestEnd before timeline.cellRight
-    timeline.cellEmpty timeline.valid overlaps onAt tally load free fitsAt freeTo startsAt lastEvent earliestFit earliestResumable
-    insertBooking latestEnds diary bookRefusal taken bookReply asking.unbroken asking.ended asking.resumed asking.askRefusal asking.asked
+    timeline.cellEmpty timeline.contentsRight timeline.valid overlaps onAt tally load free fitsAt freeTo startsAt lastEvent earliestFit earliestResumable
+    insertByStart latestEnds diary bookRefusal taken bookReply asking.unbroken asking.ended asking.resumed asking.askRefusal asking.asked
     halfUp roundAway processAt isSpeed greatest product durationOn bit covers candidate serves readyOf every releaseRight short quantity
     quantitiesRight usageRight timesRight activityRefusal resources.lookupTo isAt entryOr matrixSetup setupMs transport.placesFrom
     transport.greatestTransport board.durationRight board.entryRight board.isZero board.matrixRight board.companionsRight board.lastRight
-    board.resourceRight board.calendarBlank board.diaryBlank board.lastBlank board.resourceBlank board.cellRight board.transportRight
+    board.resourceRight board.diaryBlank board.lastBlank board.resourceBlank board.cellRight board.transportRight
     board.valid canStart allStart lastOf earliestOf resourceIn withCompanions durationAlone spanOf arrival startAlone startWith sooner
     insertBy sortInto answer candidates holdFirst behind round greatestStart settle rounds choosing durationTogether greatestSetup among
     joinEach allCompanions companionEntries entriesOf spanTogether fitsAll allFree freeToEnd startsAll suits lastAll fitting endOf ended

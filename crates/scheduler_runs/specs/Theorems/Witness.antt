@@ -11,9 +11,9 @@ use Rattle.calendar.specs.Spans.{spansFrom}
 use Rattle.calendar.specs.Valid as calendar
 use Rattle.calendar.specs.Add.{empty}
 use Rattle.cells.specs.Cells.{before}
-use Rattle.timeline.specs.Bookings.{Booking, bookingsTo, bookings, total, times, Within}
+use Rattle.timeline.specs.Bookings.{Booking, booking, bookingsTo, bookings, total, times, Within}
 use Rattle.timeline.specs.Valid as timeline
-use Rattle.timeline.specs.Diary.{insertBooking, latestEnds, diary}
+use Rattle.timeline.specs.Diary.{insertByStart, latestEnds, diary}
 use Rattle.timeline.specs.Book.{bookRefusal, taken, bookReply}
 use Rattle.board.specs.declared.Board.{Board}
 use Rattle.board.specs.Resources as resources
@@ -36,16 +36,16 @@ unfolding times
 one-more x y b = omega arith
 
 booked-more : Within (bookings (booked free1 0 100)) (bookings (booked (booked free1 0 100) 10 40))
-unfolding spansFrom calendar.cellRight everyFrom calendar.spansRight calendar.valid empty bookingsTo total insertBooking latestEnds diary
-    bookRefusal taken bookReply before timeline.cellRight timeline.cellEmpty timeline.valid resources.lookupTo isAt board.durationRight
-    board.entryRight board.isZero board.matrixRight board.companionsRight board.lastRight board.resourceRight board.calendarBlank
+unfolding spansFrom calendar.cellRight everyFrom calendar.spansRight calendar.valid empty bookingsTo total insertByStart latestEnds diary
+    bookRefusal taken bookReply before timeline.cellRight timeline.cellEmpty timeline.contentsRight timeline.valid resources.lookupTo isAt board.durationRight
+    board.entryRight board.isZero board.matrixRight board.companionsRight board.lastRight board.resourceRight
     board.diaryBlank board.lastBlank board.resourceBlank board.cellRight board.transportRight board.valid leastFrom
-booked-more = one-more (record { start = 0; end = 100; units = 1 }) (record { start = 10; end = 40; units = 1 })
+booked-more = one-more (booking 0 100 1) (booking 10 40 1)
 
 pub alike : Alike first second
-unfolding spansFrom calendar.cellRight everyFrom calendar.spansRight calendar.valid empty bookingsTo total insertBooking latestEnds diary
-    bookRefusal taken bookReply before timeline.cellRight timeline.cellEmpty timeline.valid resources.lookupTo isAt board.durationRight
-    board.entryRight board.isZero board.matrixRight board.companionsRight board.lastRight board.resourceRight board.calendarBlank
+unfolding spansFrom calendar.cellRight everyFrom calendar.spansRight calendar.valid empty bookingsTo total insertByStart latestEnds diary
+    bookRefusal taken bookReply before timeline.cellRight timeline.cellEmpty timeline.contentsRight timeline.valid resources.lookupTo isAt board.durationRight
+    board.entryRight board.isZero board.matrixRight board.companionsRight board.lastRight board.resourceRight
     board.diaryBlank board.lastBlank board.resourceBlank board.cellRight board.transportRight board.valid leastFrom
 alike = record {
   first-valid = refl;
@@ -80,9 +80,9 @@ alike = record {
 
 -- no extra is on the resource that the placement reports
 pub clean : Each (λ x. NoExtra first second (x .number)) (entry 1 ∷ [])
-unfolding spansFrom calendar.cellRight everyFrom calendar.spansRight calendar.valid empty bookingsTo total insertBooking latestEnds diary
-    bookRefusal taken bookReply before timeline.cellRight timeline.cellEmpty timeline.valid resources.lookupTo isAt board.durationRight
-    board.entryRight board.isZero board.matrixRight board.companionsRight board.lastRight board.resourceRight board.calendarBlank
+unfolding spansFrom calendar.cellRight everyFrom calendar.spansRight calendar.valid empty bookingsTo total insertByStart latestEnds diary
+    bookRefusal taken bookReply before timeline.cellRight timeline.cellEmpty timeline.contentsRight timeline.valid resources.lookupTo isAt board.durationRight
+    board.entryRight board.isZero board.matrixRight board.companionsRight board.lastRight board.resourceRight
     board.diaryBlank board.lastBlank board.resourceBlank board.cellRight board.transportRight board.valid leastFrom resourceIn
 clean =
     let same : NoExtra first second 1 = λ b. omega arith in

@@ -9,14 +9,17 @@ use lib.Seq.{take-all, take-suc}
 use lib.Dec.{leb}
 use borrow.Author.Tests.{leb-true, leb-false}
 use Rattle.calendar.specs.declared.Calendar.{Calendar}
+use Rattle.calendar.specs.Add.{empty}
 use Rattle.calendar.specs.Valid as calendar
+use Rattle.cells.specs.Every.{everyFrom}
 use Rattle.timeline.specs.declared.ResourceTimeline.{ResourceTimeline}
 use Rattle.timeline.specs.Bookings.{Booking, bookingsTo, bookings, total}
 use Rattle.cells.specs.Cells.{before}
-use Rattle.timeline.specs.Valid.{valid}
-use Rattle.timeline.specs.Diary.{insertBooking, cells, latestEnds, diary}
+use Rattle.timeline.specs.Valid.{contentsRight, valid}
+use Rattle.timeline.specs.Diary.{insertByStart, insertBooking, cells, latestEnds, diary, blankDiary, withBookings}
 use Rattle.timeline.specs.Laws.Rules.{CellFacts, rules, ruled}
-use Rattle.timeline.specs.Laws.Rows.{none, count, booking-at, pad-at, latest-length, Long, canon, PutIn, put-made, bookings-are}
+use Rattle.timeline.specs.Laws.Inserting.{pad-at, length-inserted}
+use Rattle.timeline.specs.Laws.Rows.{none, count, booking-at, latest-length, Long, PutIn, put-made}
 
 -- a booking in range that starts at ps or later
 pub record InRange (ps : ℕ) (b : Booking) : Type 0 where
@@ -115,8 +118,18 @@ diary-keeps capacity c bs v some few room o =
       sum = ap total (sym (bookings-diary capacity c bs));
     })
 
+-- no windows and no blocks
+pub always-open : calendar.valid empty ≡ true
+unfolding empty calendar.valid calendar.spansRight everyFrom calendar.cellRight
+always-open = refl
+
+-- but for its capacity a blank diary keeps the rules
+pub blank-right : contentsRight blankDiary ≡ true
+unfolding diary contentsRight valid
+blank-right = diary-keeps 1 empty [] always-open (omega arith) (omega arith) (omega arith) order-end
+
 insert-order : (ps : ℕ) (b : Booking) (bs : List Booking) → InRange ps b → InOrder ps bs → InOrder ps (insertBooking b bs)
-unfolding insertBooking
+unfolding insertByStart
 insert-order ps b [] r order-end = order-on r order-end
 insert-order ps b (x ∷ bs) r (order-on q o) = go (leb (x .start) (b .start)) refl (insert-order (x .start) b bs)
   where
@@ -126,15 +139,6 @@ insert-order ps b (x ∷ bs) r (order-on q o) = go (leb (x .start) (b .start)) r
     go false e f =
         let l = leb-false (x .start) (b .start) e in
         order-on r (order-on {ps = b .start} (record { order = q .order; range = q .range; some = q .some; few = q .few; sorted = omega arith }) o)
-
-pub length-inserted : (b : Booking) (bs : List Booking) → length (insertBooking b bs) ≡ suc (length bs)
-unfolding insertBooking
-length-inserted b [] = refl
-length-inserted b (x ∷ bs) = go (leb (x .start) (b .start)) (length-inserted b bs)
-  where
-    go : (k : Bool) → length (insertBooking b bs) ≡ suc (length bs) → length (cond k (x ∷ insertBooking b bs) (b ∷ x ∷ bs)) ≡ suc (suc (length bs))
-    go true e = ap suc e
-    go false e = refl
 
 by-index : (bs : List Booking) (ps : ℕ) → ((i : ℕ) → i < length bs → InRange (beforeFrom ps (starts bs) i) (getD bs i none)) → InOrder ps bs
 unfolding beforeFrom
@@ -162,15 +166,14 @@ bookings-order t v = by-index (bookings t) 0 one
 
 -- booking keeps a diary that keeps the rules
 pub booked-keeps : (t : ResourceTimeline) (b : Booking) → valid t ≡ true → t .len < 64 → InRange 0 b
-    → valid (diary (t .capacity) (t .calendar) (insertBooking b (bookings t))) ≡ true
+    → valid (withBookings t (insertBooking b (bookings t))) ≡ true
 booked-keeps t b v l r =
     let k = rules t v in
-    diary-keeps (t .capacity) (t .calendar) (insertBooking b (bookings t)) (k .calendar) (k .some) (k .few) (omega (arith, length-inserted b (bookings t), count t)) (insert-order 0 b (bookings t) r (bookings-order t v))
+    diary-keeps (t .capacity) (t .calendar) (insertBooking b (bookings t)) (k .calendar) (k .some) (k .few) (omega (arith, length-inserted (λ x. x .start) b (bookings t), count t)) (insert-order 0 b (bookings t) r (bookings-order t v))
 
--- a diary with one booking put in is the one of its bookings, and keeps the rules
-pub put-is : (t r : ResourceTimeline) (s e u at : ℕ) → PutIn t r s e u at → Long r → valid t ≡ true → t .len < 64 → InRange 0 (record { start = s; end = e; units = u })
-    → (r ≡ diary (t .capacity) (t .calendar) (insertBooking (record { start = s; end = e; units = u }) (bookings t))) × (valid r ≡ true)
-put-is t r s e u at p g v l k =
-    let q : r ≡ diary (t .capacity) (t .calendar) (insertBooking (record { start = s; end = e; units = u }) (bookings t)) =
-    canon r g (put-made t r s e u at p (rules t v) l) ∙ rw (bookings-are t r s e u at p, p .capacity, p .calendar) refl in
-    (q, ap valid q ∙ booked-keeps t _ v l k)
+-- a diary with one booking put in is the one with that booking, and keeps the rules
+pub put-is : (t r : ResourceTimeline) (b : Booking) (at : ℕ) → PutIn t r b at → Long t → Long r → valid t ≡ true → t .len < 64 → InRange 0 b
+    → (r ≡ withBookings t (insertBooking b (bookings t))) × (valid r ≡ true)
+put-is t r b at p g l v room k =
+    let q = put-made t r b at p g l (rules t v) room in
+    (q, ap valid q ∙ booked-keeps t b v room k)

@@ -13,8 +13,9 @@ use Rattle.cells.specs.Laws.Every.{from-at, from-all}
 use Rattle.timeline.specs.declared.ResourceTimeline.{ResourceTimeline}
 use Rattle.timeline.specs.Bookings.{bookings, total}
 use Rattle.cells.specs.Cells.{before}
-use Rattle.timeline.specs.Valid.{cellRight, cellEmpty, filledAt, emptyAt, filledFrom, emptyFrom, valid}
-use Rattle.timeline.specs.Book.{withCalendar, calendarReply}
+use Rattle.timeline.specs.Valid.{cellRight, cellEmpty, filledAt, emptyAt, filledFrom, emptyFrom, contentsRight, valid}
+use Rattle.timeline.specs.Diary.{withCalendar}
+use Rattle.timeline.specs.Book.{calendarReply}
 
 -- a filled cell
 pub record CellFacts (s e u l ps pl : ℕ) : Type 0 where
@@ -54,15 +55,18 @@ CellOf t i =
     (before (t .latest) i)
 
 -- an empty cell
-pub record EmptyOf (t : ResourceTimeline) (i : ℕ) : Type 0 where
-  pub starts0 : getD (t .starts) i 0 ≡ 0
-  pub ends0 : getD (t .ends) i 0 ≡ 0
-  pub units0 : getD (t .units) i 0 ≡ 0
-  pub latest0 : getD (t .latest) i 0 ≡ 0
+pub record EmptyFacts (s e u l : ℕ) : Type 0 where
+  pub starts0 : s ≡ 0
+  pub ends0 : e ≡ 0
+  pub units0 : u ≡ 0
+  pub latest0 : l ≡ 0
 
-empty-facts : (t : ResourceTimeline) (i : ℕ) → emptyAt t i ≡ true → EmptyOf t i
+abbrev EmptyOf : ResourceTimeline → ℕ → Type 0
+EmptyOf t i = EmptyFacts (getD (t .starts) i 0) (getD (t .ends) i 0) (getD (t .units) i 0) (getD (t .latest) i 0)
+
+empty-facts : (s e u l : ℕ) → cellEmpty s e u l ≡ true → EmptyFacts s e u l
 unfolding cellEmpty
-empty-facts t i h =
+empty-facts s e u l h =
     let h1 = and-split _ _ h in
     let h2 = and-split _ _ (h1 .1) in
     let h3 = and-split _ _ (h2 .1) in
@@ -73,9 +77,9 @@ empty-facts t i h =
       latest0 = eqb-true _ _ (h3 .1);
     }
 
-cell-empty : (t : ResourceTimeline) (i : ℕ) → EmptyOf t i → emptyAt t i ≡ true
+cell-empty : (s e u l : ℕ) → EmptyFacts s e u l → cellEmpty s e u l ≡ true
 unfolding cellEmpty
-cell-empty t i f = simp (eq-eqb _ _ (f .starts0), eq-eqb _ _ (f .ends0), eq-eqb _ _ (f .units0), eq-eqb _ _ (f .latest0))
+cell-empty s e u l f = simp (eq-eqb _ _ (f .starts0), eq-eqb _ _ (f .ends0), eq-eqb _ _ (f .units0), eq-eqb _ _ (f .latest0))
 
 pub record DiaryRules (t : ResourceTimeline) : Type 0 where
   pub calendar : calendar.valid (t .calendar) ≡ true
@@ -90,10 +94,10 @@ filled-cells : (t : ResourceTimeline) → filledFrom t 0 (t .len) ≡ true → (
 filled-cells t f i l = cell-facts _ _ _ _ _ _ (from-at (filledAt t) 0 (t .len) f i (omega arith) (omega arith))
 
 empty-cells : (t : ResourceTimeline) → emptyFrom t (t .len) (64 - t .len) ≡ true → (i : ℕ) → t .len ≤ i → i < 64 → EmptyOf t i
-empty-cells t f i g l = empty-facts t i (from-at (emptyAt t) (t .len) (64 - t .len) f i g (omega arith))
+empty-cells t f i g l = empty-facts _ _ _ _ (from-at (emptyAt t) (t .len) (64 - t .len) f i g (omega arith))
 
 pub rules : (t : ResourceTimeline) → valid t ≡ true → DiaryRules t
-unfolding valid
+unfolding valid contentsRight
 rules t h =
     let h0 = and-split _ _ h in
     let h1 = and-split _ _ (h0 .1) in
@@ -102,9 +106,9 @@ rules t h =
     let h4 = and-split _ _ (h3 .1) in
     let h5 = and-split _ _ (h4 .1) in
     record {
-      calendar = h0 .0;
-      some = leb-true _ _ (h1 .0);
-      few = ltb-true _ _ (h2 .0);
+      calendar = h2 .0;
+      some = leb-true _ _ (h0 .0);
+      few = ltb-true _ _ (h1 .0);
       room = leb-true _ _ (h3 .0);
       filled = filled-cells t (h4 .0);
       empty = empty-cells t (h5 .0);
@@ -112,29 +116,19 @@ rules t h =
     }
 
 pub ruled : (t : ResourceTimeline) → DiaryRules t → valid t ≡ true
-unfolding valid
+unfolding valid contentsRight
 ruled t r =
     let f : filledFrom t 0 (t .len) ≡ true = from-all (filledAt t) 0 (t .len) (λ j h l. cell-right _ _ _ _ _ _ (r .filled j (omega arith))) in
     let e : emptyFrom t (t .len) (64 - t .len) ≡ true =
-    from-all (emptyAt t) (t .len) (64 - t .len) (λ j h l. cell-empty t j (r .empty j h (omega (arith, r .room)))) in
-    simp (r .calendar, le-leb _ _ (r .some), lt-ltb _ _ (r .few), le-leb _ _ (r .room), f, e, eq-eqb _ _ (r .sum))
+    from-all (emptyAt t) (t .len) (64 - t .len) (λ j h l. cell-empty _ _ _ _ (r .empty j h (omega (arith, r .room)))) in
+    simp (le-leb _ _ (r .some), lt-ltb _ _ (r .few), r .calendar, le-leb _ _ (r .room), f, e, eq-eqb _ _ (r .sum))
 
 -- the same diary with another calendar that keeps the rules
 pub recalendared : (t : ResourceTimeline) (c : Calendar) → valid t ≡ true → calendar.valid c ≡ true → valid (withCalendar t c) ≡ true
 unfolding withCalendar
 recalendared t c h k =
     let r = rules t h in
-    ruled _ (record {
-      calendar = k;
-      some = r .some;
-      few = r .few;
-      room = r .room;
-      filled = r .filled;
-      empty = λ i g l.
-          let e = r .empty i g l in
-          record { starts0 = e .starts0; ends0 = e .ends0; units0 = e .units0; latest0 = e .latest0 };
-      sum = r .sum;
-    })
+    ruled _ (record { calendar = k; some = r .some; few = r .few; room = r .room; filled = r .filled; empty = r .empty; sum = r .sum })
 
 -- a window or a block on the calendar of a diary that keeps the rules
 pub calendar-reply : (t : ResourceTimeline) (r a : Added) → valid t ≡ true → r ≡ a

@@ -8,7 +8,8 @@ use Rattle.calendar.specs.declared.Added.{Added}
 use Rattle.timeline.specs.declared.ResourceTimeline.{ResourceTimeline}
 use Rattle.timeline.specs.declared.Booked.{Booked}
 use Rattle.timeline.specs.Valid.{valid}
-use Rattle.timeline.specs.Book.{withCalendar, calendarReply}
+use Rattle.timeline.specs.Diary.{withCalendar}
+use Rattle.timeline.specs.Book.{calendarReply}
 use Rattle.timeline.specs.Laws.Rules.{recalendared}
 use Rattle.timeline_loader.specs.declared.TimeWindow.{TimeWindow}
 use Rattle.timeline_loader.specs.Run.{addOne, addRun, addTimelineRun}

@@ -10,8 +10,8 @@ use Rattle.calendar.specs.Valid.{cellRight, spansRight, valid}
 use Rattle.calendar.specs.Add.{addRefusal, empty, withSpan, added, addWindow, addBlock}
 use Rattle.timeline.specs.Bookings.{bookingsTo, total}
 use Rattle.timeline.specs.Valid as timelines
-use Rattle.timeline.specs.Diary.{latestEnds, diary}
-use Rattle.timeline.specs.Book.{withCalendar, calendarReply}
+use Rattle.timeline.specs.Diary.{latestEnds, diary, withCalendar}
+use Rattle.timeline.specs.Book.{calendarReply}
 use Rattle.timeline_loader.specs.declared.TimeWindow.{TimeWindow}
 use Rattle.timeline_loader.specs.Run.{reply, addOne, judged, addRun, addTimelineRun}
 
@@ -79,5 +79,5 @@ pub timeline-runs :
     ∷ [])
     ≡ record { refusal = 0; timeline = diary 1 touching [] } ∷ record { refusal = 2; timeline = diary 1 empty [] } ∷ record { refusal = 15; timeline = diary 1 spoilt [] } ∷ []
 unfolding cellRight everyFrom spansRight valid addRefusal empty withSpan added addWindow addBlock addOne judged addRun bookingsTo total
-    timelines.cellEmpty timelines.valid latestEnds diary withCalendar calendarReply addTimelineRun
+    timelines.cellEmpty timelines.contentsRight timelines.valid latestEnds diary withCalendar calendarReply addTimelineRun
 timeline-runs = refl

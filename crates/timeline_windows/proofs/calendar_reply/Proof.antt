@@ -2,7 +2,8 @@
 use borrow.Author.Needs.{needs}
 use borrow.Author.Tests.{not-true, not-false}
 use mathlib.Core.Path.{sym, _∙_}
-use Rattle.timeline.specs.Book.{withCalendar, calendarReply}
+use Rattle.timeline.specs.Diary.{withCalendar}
+use Rattle.timeline.specs.Book.{calendarReply}
 use Rattle.timeline.specs.Laws.Rules.{recalendared}
 use Rattle.timeline_windows.proofs.calendar_reply.Statement.{statement}
 use Rattle.timeline_windows.proofs.calendar_reply.Tie as tie
