@@ -9,7 +9,7 @@ use lib.ListN.{getD}
 use Rattle.board.specs.Resources.{onBoard}
 use Rattle.board.specs.Valid.{valid}
 use Rattle.board_numbers.proofs.Standing.{on-is}
-use Rattle.board_resources.specs.Laws.Replying.{add-15, add-diary, add-number, add-companion, add-there, add-many, add-0}
+use Rattle.board_resources.specs.Laws.Replying.{Passed, add-15, add-diary, add-number, add-companion, add-there, add-many, add-0}
 use Rattle.timeline.specs.Valid as timeline
 use Rattle.board_resources.proofs.add_refusal.Statement.{statement}
 use Rattle.board_resources.proofs.add_refusal.Tie as tie
@@ -37,6 +37,19 @@ on-here c = on-is _ _ (c .before .before .places-of .result .places) (valid-here
 -- and so is the diary
 diary-here : (c : tie.Else2) → timeline.valid (start (else1 c) .args .timeline) ≡ true
 diary-here c = sym (c .before .is-valid .ensures) ∙ not-false _ (c .if2 .left)
+
+-- the tests before those of the board's room are passed
+abbrev known : tie.Else4 → tie.Else1
+known c = else1 (else2 (c .before))
+
+passed : (c : tie.Else4) → Passed (start (known c) .args .b) (start (known c) .args .number) (start (known c) .args .companions .now) (start (known c) .args .timeline)
+passed c =
+    record {
+      board = valid-here (known c);
+      diary = diary-here (else2 (c .before));
+      low = omega arith;
+      each = sym (c .before .numbers-right .ensures) ∙ not-false _ (c .if4 .left);
+    }
 
 places-of-requires : tie.Need-places-of-requires
 places-of-requires c κs = search needs
@@ -66,24 +79,18 @@ is-on-requires c κs = search needs
 
 returns-5 : tie.Need-returns-5
 returns-5 c =
-    let f = else4 (c .before) in
-    let d = else2 (f .before) in
-    let e = else1 d in
-    add-there _ _ _ _ (valid-here e) (diary-here d) (omega arith) (sym (f .before .numbers-right .ensures) ∙ not-false _ (f .if4 .left)) (sym (on-here e) ∙ sym (c .before .is-on .ensures) ∙ c .if5 .taken)
+    let d = else4 (c .before) in
+    add-there _ _ _ _ (passed d) (sym (on-here (known d)) ∙ sym (c .before .is-on .ensures) ∙ c .if5 .taken)
 
 returns-6 : tie.Need-returns-6
 returns-6 c =
-    let f = else4 (c .before .before) in
-    let d = else2 (f .before) in
-    let e = else1 d in
-    add-many _ _ _ _ (valid-here e) (diary-here d) (omega arith) (sym (f .before .numbers-right .ensures) ∙ not-false _ (f .if4 .left)) (sym (on-here e) ∙ sym (c .before .before .is-on .ensures) ∙ c .before .if5 .left) (omega arith)
+    let d = else4 (c .before .before) in
+    add-many _ _ _ _ (passed d) (sym (on-here (known d)) ∙ sym (c .before .before .is-on .ensures) ∙ c .before .if5 .left) (omega arith)
 
 returns-7 : tie.Need-returns-7
 returns-7 c =
-    let f = else4 (c .before .before) in
-    let d = else2 (f .before) in
-    let e = else1 d in
-    add-0 _ _ _ _ (valid-here e) (diary-here d) (omega arith) (sym (f .before .numbers-right .ensures) ∙ not-false _ (f .if4 .left)) (sym (on-here e) ∙ sym (c .before .before .is-on .ensures) ∙ c .before .if5 .left) (omega arith)
+    let d = else4 (c .before .before) in
+    add-0 _ _ _ _ (passed d) (sym (on-here (known d)) ∙ sym (c .before .before .is-on .ensures) ∙ c .before .if5 .left) (omega arith)
 
 pub add-refusal-spec : {M : Type 1} → statement M
 add-refusal-spec =
