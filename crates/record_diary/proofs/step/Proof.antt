@@ -57,7 +57,7 @@ told-requires : tie.Need-told-requires
 told-requires c κs = search needs
 
 returns-2 : tie.Need-returns-2
-returns-2 c = does-window _ _ _ _ _ _ _ _ (omega arith) (of-window c .before .number2 .ensures .0) (of-window c .number3 .ensures .0) (c .before .add-window .ensures .0) (c .told .ensures)
+returns-2 c = does-window _ _ _ _ _ (omega arith) (of-window c .before .number2 .ensures .0) (of-window c .number3 .ensures .0) (c .before .add-window .ensures .0) (c .told .ensures)
 
 add-block-requires : tie.Need-add-block-requires
 add-block-requires c κs = search needs
@@ -66,7 +66,7 @@ told-requires-2 : tie.Need-told-requires-2
 told-requires-2 c κs = search needs
 
 returns-3 : tie.Need-returns-3
-returns-3 c = does-block _ _ _ _ _ _ _ _ (omega arith) (of-block c .before .number2 .ensures .0) (of-block c .number3 .ensures .0) (c .before .add-block .ensures .0) (c .told2 .ensures)
+returns-3 c = does-block _ _ _ _ _ (omega arith) (of-block c .before .number2 .ensures .0) (of-block c .number3 .ensures .0) (c .before .add-block .ensures .0) (c .told2 .ensures)
 
 add-number-2 : tie.Need-add-number-2
 add-number-2 c = search needs
@@ -84,7 +84,7 @@ told-requires-3 : tie.Need-told-requires-3
 told-requires-3 c κs = search needs
 
 returns-4 : tie.Need-returns-4
-returns-4 c = does-booking _ _ _ _ _ _ _ _ _ (omega arith) (second (of-booking c) .before .number2 .ensures .0) (second (of-booking c) .number3 .ensures .0) (of-booking c .number4 .ensures .0) (c .before .book .ensures .0) (c .told3 .ensures)
+returns-4 c = does-booking _ _ _ _ _ (omega arith) (second (of-booking c) .before .number2 .ensures .0) (second (of-booking c) .number3 .ensures .0) (of-booking c .number4 .ensures .0) (c .before .book .ensures .0) (c .told3 .ensures)
 
 earliest-fit-requires : tie.Need-earliest-fit-requires
 earliest-fit-requires c κs = search needs
@@ -93,7 +93,7 @@ asked-requires : tie.Need-asked-requires
 asked-requires c κs = search needs
 
 returns-5 : tie.Need-returns-5
-returns-5 c = does-fit _ _ _ _ _ _ _ _ _ (omega arith) (second (of-fit c) .before .number2 .ensures .0) (second (of-fit c) .number3 .ensures .0) (of-fit c .number4 .ensures .0) (c .before .earliest-fit .ensures) (c .asked .ensures)
+returns-5 c = does-fit _ _ _ _ _ (omega arith) (second (of-fit c) .before .number2 .ensures .0) (second (of-fit c) .number3 .ensures .0) (of-fit c .number4 .ensures .0) (c .before .earliest-fit .ensures) (c .asked .ensures)
 
 earliest-resumable-requires : tie.Need-earliest-resumable-requires
 earliest-resumable-requires c κs = search needs
@@ -102,7 +102,7 @@ asked-requires-2 : tie.Need-asked-requires-2
 asked-requires-2 c κs = search needs
 
 returns-6 : tie.Need-returns-6
-returns-6 c = does-resumable _ _ _ _ _ _ _ _ _ (λ e. omega arith) (λ e. omega arith) (λ e. omega arith) (λ e. omega arith) (λ e. omega arith) (second (of-resumable c) .before .number2 .ensures .0) (second (of-resumable c) .number3 .ensures .0) (of-resumable c .number4 .ensures .0) (c .before .earliest-resumable .ensures) (c .asked2 .ensures)
+returns-6 c = does-resumable _ _ _ _ _ (λ e. omega arith) (λ e. omega arith) (λ e. omega arith) (λ e. omega arith) (λ e. omega arith) (second (of-resumable c) .before .number2 .ensures .0) (second (of-resumable c) .number3 .ensures .0) (of-resumable c .number4 .ensures .0) (c .before .earliest-resumable .ensures) (c .asked2 .ensures)
 
 pub step-spec : {M : Type 1} → statement M
 step-spec =
