@@ -66,7 +66,7 @@ set-matrix-requires c κs = search needs
 returns : tie.Need-returns
 returns c =
     let n2 = after-number2 c in
-    enters-matrix _ _ _ _ _ _ _ _ _ (omega arith) (n2 .before .before .number .ensures .0) (n2 .number2 .ensures .0) (back _ _ (n2 .before .signed .ensures) (n2 .before .before .number .ensures .1)) (back _ _ (c .before .signed2 .ensures) (n2 .number2 .ensures .1)) (c .set-matrix .ensures)
+    enters-matrix _ _ _ _ _ (omega arith) (n2 .before .before .number .ensures .0) (n2 .number2 .ensures .0) (back _ _ (n2 .before .signed .ensures) (n2 .before .before .number .ensures .1)) (back _ _ (c .before .signed2 .ensures) (n2 .number2 .ensures .1)) (c .set-matrix .ensures)
 
 add-number-3 : tie.Need-add-number-3
 add-number-3 c = search needs
@@ -95,7 +95,7 @@ set-transition-requires c κs = search needs
 returns-2 : tie.Need-returns-2
 returns-2 c =
     let n3 = after-number3 (c .before) in
-    enters-pair _ _ _ _ _ _ _ (omega arith) (n3 .number3 .ensures .0) (back _ _ (c .before .before .signed3 .ensures) (n3 .number3 .ensures .1)) (c .set-transition .ensures)
+    enters-pair _ _ _ _ _ (omega arith) (n3 .number3 .ensures .0) (back _ _ (c .before .before .signed3 .ensures) (n3 .number3 .ensures .1)) (c .set-transition .ensures)
 
 add-number-4 : tie.Need-add-number-4
 add-number-4 c = search needs
@@ -112,13 +112,13 @@ set-initial-requires : tie.Need-set-initial-requires
 set-initial-requires c κs = search needs
 
 returns-3 : tie.Need-returns-3
-returns-3 c = enters-first _ _ _ _ _ _ _ (omega arith) (after-number4 c .number4 .ensures .0) (back _ _ (c .before .signed4 .ensures) (after-number4 c .number4 .ensures .1)) (c .set-initial .ensures)
+returns-3 c = enters-first _ _ _ _ _ (omega arith) (after-number4 c .number4 .ensures .0) (back _ _ (c .before .signed4 .ensures) (after-number4 c .number4 .ensures .1)) (c .set-initial .ensures)
 
 set-transport-requires : tie.Need-set-transport-requires
 set-transport-requires c κs = search needs
 
 returns-4 : tie.Need-returns-4
-returns-4 c = enters-transport _ _ _ _ _ _ (λ e. omega arith) (λ e. omega arith) (λ e. omega arith) (c .before .before .number4 .ensures .0) (c .set-transport .ensures)
+returns-4 c = enters-transport _ _ _ _ _ (λ e. omega arith) (λ e. omega arith) (λ e. omega arith) (c .before .before .number4 .ensures .0) (c .set-transport .ensures)
 
 pub entry-spec : {M : Type 1} → statement M
 entry-spec =
