@@ -45,29 +45,29 @@ does-add d bs i n m skills e s q l f g = rw (← q, ← l, ← f) g
 
 -- an entry of the board, by its kind: x and y are the numbers of its body
 module _ (b : Board) (k : ℕ) (bs : List ℕ) (i : ℕ) (e : Entered) where
-  pub enters-matrix : (x y : ℕ) (u v : ℤ) → k ≡ 17 → x ≡ little bs (i + 1) 8 → y ≡ little bs (i + 9) 8 → u ≡ signed x → v ≡ signed y → e ≡ setMatrixReply b (byte bs i) u v
+  pub enters-matrix : {x y : ℕ} {u v : ℤ} → k ≡ 17 → x ≡ little bs (i + 1) 8 → y ≡ little bs (i + 9) 8 → u ≡ signed x → v ≡ signed y → e ≡ setMatrixReply b (byte bs i) u v
       → e ≡ entryReply b k bs i
   unfolding entryReply
-  enters-matrix x y u v q l m f g h = rw (eq-eqb k 17 q, ← l, ← m, ← f, ← g) h
+  enters-matrix q l m f g h = rw (eq-eqb k 17 q, ← l, ← m, ← f, ← g) h
 
-  pub enters-pair : (x : ℕ) (u : ℤ) → k ≡ 18 → x ≡ little bs (i + 3) 8 → u ≡ signed x → e ≡ setTransitionReply b (byte bs i) (byte bs (i + 1)) (byte bs (i + 2)) u
+  pub enters-pair : {x : ℕ} {u : ℤ} → k ≡ 18 → x ≡ little bs (i + 3) 8 → u ≡ signed x → e ≡ setTransitionReply b (byte bs i) (byte bs (i + 1)) (byte bs (i + 2)) u
       → e ≡ entryReply b k bs i
   unfolding entryReply
-  enters-pair x u q l f h =
+  enters-pair q l f h =
       let o : eqb k 17 ≡ false = ne-eqb k 17 (λ z. omega arith) in
       rw (o, eq-eqb k 18 q, ← l, ← f) h
 
-  pub enters-first : (x : ℕ) (u : ℤ) → k ≡ 19 → x ≡ little bs (i + 2) 8 → u ≡ signed x → e ≡ setInitialReply b (byte bs i) (byte bs (i + 1)) u → e ≡ entryReply b k bs i
+  pub enters-first : {x : ℕ} {u : ℤ} → k ≡ 19 → x ≡ little bs (i + 2) 8 → u ≡ signed x → e ≡ setInitialReply b (byte bs i) (byte bs (i + 1)) u → e ≡ entryReply b k bs i
   unfolding entryReply
-  enters-first x u q l f h =
+  enters-first q l f h =
       let o : eqb k 17 ≡ false = ne-eqb k 17 (λ z. omega arith) in
       let p : eqb k 18 ≡ false = ne-eqb k 18 (λ z. omega arith) in
       rw (o, p, eq-eqb k 19 q, ← l, ← f) h
 
-  pub enters-transport : (x : ℕ) → (k ≡ 17 → ⊥) → (k ≡ 18 → ⊥) → (k ≡ 19 → ⊥) → x ≡ little bs (i + 2) 8 → e ≡ setTransportReply b (byte bs i) (byte bs (i + 1)) x
+  pub enters-transport : {x : ℕ} → (k ≡ 17 → ⊥) → (k ≡ 18 → ⊥) → (k ≡ 19 → ⊥) → x ≡ little bs (i + 2) 8 → e ≡ setTransportReply b (byte bs i) (byte bs (i + 1)) x
       → e ≡ entryReply b k bs i
   unfolding entryReply
-  enters-transport x o p q l h = rw (ne-eqb k 17 o, ne-eqb k 18 p, ne-eqb k 19 q, ← l) h
+  enters-transport o p q l h = rw (ne-eqb k 17 o, ne-eqb k 18 p, ne-eqb k 19 q, ← l) h
 
 -- a record, by its kind
 module _ (d : Desk) (k : ℕ) (bs : List ℕ) (i : ℕ) where

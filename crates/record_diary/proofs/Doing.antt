@@ -49,44 +49,44 @@ module _ (t : ResourceTimeline) (k : ℕ) (bs : List ℕ) (i : ℕ) (d : Done) w
   unfolding recordDoes
   does-renew n q l e = rw (eq-eqb k 1 q, ← l) e
 
-  pub does-window : (x y : ℕ) (b : Booked) → k ≡ 2 → x ≡ little bs i 8 → y ≡ little bs (i + 8) 8 → b ≡ calendarReply t (addWindow (t .calendar) x y) → d ≡ books b
+  pub does-window : {x y : ℕ} {b : Booked} → k ≡ 2 → x ≡ little bs i 8 → y ≡ little bs (i + 8) 8 → b ≡ calendarReply t (addWindow (t .calendar) x y) → d ≡ books b
       → d ≡ recordDoes t k bs i
   unfolding recordDoes
-  does-window x y b q l m f e =
+  does-window q l m f e =
       let o : eqb k 1 ≡ false = ne-eqb k 1 (λ z. omega arith) in
       rw (o, eq-eqb k 2 q, ← l, ← m, ← f) e
 
-  pub does-block : (x y : ℕ) (b : Booked) → k ≡ 3 → x ≡ little bs i 8 → y ≡ little bs (i + 8) 8 → b ≡ calendarReply t (addBlock (t .calendar) x y) → d ≡ books b
+  pub does-block : {x y : ℕ} {b : Booked} → k ≡ 3 → x ≡ little bs i 8 → y ≡ little bs (i + 8) 8 → b ≡ calendarReply t (addBlock (t .calendar) x y) → d ≡ books b
       → d ≡ recordDoes t k bs i
   unfolding recordDoes
-  does-block x y b q l m f e =
+  does-block q l m f e =
       let o : eqb k 1 ≡ false = ne-eqb k 1 (λ z. omega arith) in
       let p : eqb k 2 ≡ false = ne-eqb k 2 (λ z. omega arith) in
       rw (o, p, eq-eqb k 3 q, ← l, ← m, ← f) e
 
-  pub does-booking : (x y u : ℕ) (b : Booked) → k ≡ 4 → x ≡ little bs i 8 → y ≡ little bs (i + 8) 8 → u ≡ little bs (i + 16) 4 → b ≡ bookReply t x y u → d ≡ books b
+  pub does-booking : {x y u : ℕ} {b : Booked} → k ≡ 4 → x ≡ little bs i 8 → y ≡ little bs (i + 8) 8 → u ≡ little bs (i + 16) 4 → b ≡ bookReply t x y u → d ≡ books b
       → d ≡ recordDoes t k bs i
   unfolding recordDoes
-  does-booking x y u b q l m n f e =
+  does-booking q l m n f e =
       let o : eqb k 1 ≡ false = ne-eqb k 1 (λ z. omega arith) in
       let p : eqb k 2 ≡ false = ne-eqb k 2 (λ z. omega arith) in
       let r : eqb k 3 ≡ false = ne-eqb k 3 (λ z. omega arith) in
       rw (o, p, r, eq-eqb k 4 q, ← l, ← m, ← n, ← f) e
 
-  pub does-fit : (x y u : ℕ) (a : AskReply) → k ≡ 5 → x ≡ little bs i 8 → y ≡ little bs (i + 8) 8 → u ≡ little bs (i + 16) 4 → a ≡ fitReply t x y u → d ≡ asks t a
+  pub does-fit : {x y u : ℕ} {a : AskReply} → k ≡ 5 → x ≡ little bs i 8 → y ≡ little bs (i + 8) 8 → u ≡ little bs (i + 16) 4 → a ≡ fitReply t x y u → d ≡ asks t a
       → d ≡ recordDoes t k bs i
   unfolding recordDoes
-  does-fit x y u a q l m n f e =
+  does-fit q l m n f e =
       let o : eqb k 1 ≡ false = ne-eqb k 1 (λ z. omega arith) in
       let p : eqb k 2 ≡ false = ne-eqb k 2 (λ z. omega arith) in
       let r : eqb k 3 ≡ false = ne-eqb k 3 (λ z. omega arith) in
       let s : eqb k 4 ≡ false = ne-eqb k 4 (λ z. omega arith) in
       rw (o, p, r, s, eq-eqb k 5 q, ← l, ← m, ← n, ← f) e
 
-  pub does-resumable : (x y u : ℕ) (a : AskReply) → (k ≡ 1 → ⊥) → (k ≡ 2 → ⊥) → (k ≡ 3 → ⊥) → (k ≡ 4 → ⊥) → (k ≡ 5 → ⊥) → x ≡ little bs i 8
+  pub does-resumable : {x y u : ℕ} {a : AskReply} → (k ≡ 1 → ⊥) → (k ≡ 2 → ⊥) → (k ≡ 3 → ⊥) → (k ≡ 4 → ⊥) → (k ≡ 5 → ⊥) → x ≡ little bs i 8
       → y ≡ little bs (i + 8) 8 → u ≡ little bs (i + 16) 4 → a ≡ resumableReply t x y u → d ≡ asks t a → d ≡ recordDoes t k bs i
   unfolding recordDoes
-  does-resumable x y u a o p r s v l m n f e = rw (ne-eqb k 1 o, ne-eqb k 2 p, ne-eqb k 3 r, ne-eqb k 4 s, ne-eqb k 5 v, ← l, ← m, ← n, ← f) e
+  does-resumable o p r s v l m n f e = rw (ne-eqb k 1 o, ne-eqb k 2 p, ne-eqb k 3 r, ne-eqb k 4 s, ne-eqb k 5 v, ← l, ← m, ← n, ← f) e
 
 -- the stream ends
 pub turn-ends : (r : DiaryTurn) (t : ResourceTimeline) (l : Line) (i : ℕ) → r .timeline ≡ t → r .line ≡ l → r .at ≡ i → r .more ≡ false → turnOf r ≡ ends t (lineOf l) i

@@ -21,6 +21,10 @@ Inv-loop entries i₀ i = (i ≤ 256) × (everyFrom (λ k. isZero (getD entries 
 abbrev μ-loop : tie.MeasureT-loop
 μ-loop entries i₀ i = 256 - i
 
+-- the places that the proof looks back to, each from the next one
+abbrev at-loop : tie.After-ms Inv-loop μ-loop → tie.At-loop Inv-loop μ-loop
+at-loop c = c .before .before
+
 loop-holds : tie.Need-loop-holds Inv-loop μ-loop
 loop-holds c = (omega arith, refl)
 
@@ -32,9 +36,10 @@ element-copy-out-ms c = search needs
 
 returns : tie.Need-returns Inv-loop μ-loop
 returns c =
-    let z = getD (c .before .before .before .before .args .entries .now) (c .before .before .before .loop .i) (pos 0) in
+    let l = at-loop (c .before) in
+    let z = getD (l .before .args .entries .now) (l .loop .i) (pos 0) in
     let e = sym (zero-bits z (record { sfits = c .before .ms .given })) ∙ ne-eqb (ofZ w64 z) 0 (c .if1 .taken) in
-    from-stop _ (c .before .before .before .loop .inv .1) (c .before .before .loop-test .taken) e
+    from-stop _ (l .loop .inv .1) (c .before .before .loop-test .taken) e
 
 add-i : tie.Need-add-i Inv-loop μ-loop
 add-i c = search needs
@@ -44,9 +49,10 @@ loop-less c = search needs
 
 loop-again : tie.Need-loop-again Inv-loop μ-loop
 loop-again c =
-    let z = getD (c .before .before .before .before .args .entries .now) (c .before .before .before .loop .i) (pos 0) in
+    let l = at-loop (c .before) in
+    let z = getD (l .before .args .entries .now) (l .loop .i) (pos 0) in
     let e = sym (zero-bits z (record { sfits = c .before .ms .given })) ∙ eq-eqb (ofZ w64 z) 0 (c .if1 .left) in
-    (omega arith, from-more _ (c .before .before .before .loop .inv .1) (c .before .before .loop-test .taken) e)
+    (omega arith, from-more _ (l .loop .inv .1) (c .before .before .loop-test .taken) e)
 
 returns-2 : tie.Need-returns-2 Inv-loop μ-loop
 returns-2 c = from-done _ (c .before .loop .inv .1) (omega arith)

@@ -20,6 +20,10 @@ Inv-loop entries i₀ i = (i ≤ 256) × (everyFrom (λ k. entryRight (getD entr
 abbrev μ-loop : tie.MeasureT-loop
 μ-loop entries i₀ i = 256 - i
 
+-- the places that the proof looks back to, each from the next one
+abbrev in-loop : tie.After-entry-right Inv-loop μ-loop → tie.In-loop Inv-loop μ-loop
+in-loop c = c .before .before
+
 loop-holds : tie.Need-loop-holds Inv-loop μ-loop
 loop-holds c = (omega arith, refl)
 
@@ -34,9 +38,10 @@ entry-right-requires c κs = search needs
 
 returns : tie.Need-returns Inv-loop μ-loop
 returns c =
-    let back = toZ-ofZ w64 (getD (c .before .before .before .before .before .args .entries .now) (c .before .before .before .before .loop .i) (pos 0)) (record { sfits = c .before .before .ms .given }) in
+    let t = in-loop (c .before) in
+    let back = toZ-ofZ w64 (getD (t .before .before .args .entries .now) (t .before .loop .i) (pos 0)) (record { sfits = c .before .before .ms .given }) in
     let e = sym (rw back at (c .before .entry-right .ensures)) ∙ not-true _ (c .if1 .taken) in
-    from-stop _ (c .before .before .before .before .loop .inv .1) (c .before .before .before .loop-test .taken) e
+    from-stop _ (t .before .loop .inv .1) (t .loop-test .taken) e
 
 add-i : tie.Need-add-i Inv-loop μ-loop
 add-i c = search needs
@@ -46,9 +51,10 @@ loop-less c = search needs
 
 loop-again : tie.Need-loop-again Inv-loop μ-loop
 loop-again c =
-    let back = toZ-ofZ w64 (getD (c .before .before .before .before .before .args .entries .now) (c .before .before .before .before .loop .i) (pos 0)) (record { sfits = c .before .before .ms .given }) in
+    let t = in-loop (c .before) in
+    let back = toZ-ofZ w64 (getD (t .before .before .args .entries .now) (t .before .loop .i) (pos 0)) (record { sfits = c .before .before .ms .given }) in
     let e = sym (rw back at (c .before .entry-right .ensures)) ∙ not-false _ (c .if1 .left) in
-    (omega arith, from-more _ (c .before .before .before .before .loop .inv .1) (c .before .before .before .loop-test .taken) e)
+    (omega arith, from-more _ (t .before .loop .inv .1) (t .loop-test .taken) e)
 
 returns-2 : tie.Need-returns-2 Inv-loop μ-loop
 returns-2 c = from-done _ (c .before .loop .inv .1) (omega arith)

@@ -37,17 +37,24 @@ module _ (b : Board) (number : ℕ) (companions : List ℕ) (t : ResourceTimelin
   unfolding addRefusal
   add-companion v w l e = rw (v, w, le-ltb 15 number l, e) refl
 
-  pub add-there : valid b ≡ true → timeline.valid t ≡ true → number ≤ 15 → small ≡ true → onBoard b number ≡ true → 4 ≡ addRefusal b number companions t
-  unfolding addRefusal
-  add-there v w l e o = rw (v, w, le-ltb 15 number l, e, o) refl
+  -- what the tests before those of the board's room say
+  pub record Passed : Type 0 where
+    pub board : valid b ≡ true
+    pub diary : timeline.valid t ≡ true
+    pub low : number ≤ 15
+    pub each : small ≡ true
 
-  pub add-many : valid b ≡ true → timeline.valid t ≡ true → number ≤ 15 → small ≡ true → onBoard b number ≡ false → 4 < length companions → 4 ≡ addRefusal b number companions t
+  pub add-there : Passed → onBoard b number ≡ true → 4 ≡ addRefusal b number companions t
   unfolding addRefusal
-  add-many v w l e o m = rw (v, w, le-ltb 15 number l, e, o, lt-ltb 4 (length companions) m) refl
+  add-there p o = rw (p .board, p .diary, le-ltb 15 number (p .low), p .each, o) refl
 
-  pub add-0 : valid b ≡ true → timeline.valid t ≡ true → number ≤ 15 → small ≡ true → onBoard b number ≡ false → length companions ≤ 4 → 0 ≡ addRefusal b number companions t
+  pub add-many : Passed → onBoard b number ≡ false → 4 < length companions → 4 ≡ addRefusal b number companions t
   unfolding addRefusal
-  add-0 v w l e o m = rw (v, w, le-ltb 15 number l, e, o, le-ltb 4 (length companions) m) refl
+  add-many p o m = rw (p .board, p .diary, le-ltb 15 number (p .low), p .each, o, lt-ltb 4 (length companions) m) refl
+
+  pub add-0 : Passed → onBoard b number ≡ false → length companions ≤ 4 → 0 ≡ addRefusal b number companions t
+  unfolding addRefusal
+  add-0 p o m = rw (p .board, p .diary, le-ltb 15 number (p .low), p .each, o, le-ltb 4 (length companions) m) refl
 
   -- what no refusal says
   pub record Taken : Type 0 where

@@ -29,6 +29,19 @@ Inv-loop b len wrong places₀ lens₀ i₀ places lens i =
 abbrev μ-loop : tie.MeasureT-loop
 μ-loop b len wrong places₀ lens₀ i₀ places lens i = 16 - i
 
+-- the places that the proof looks back to, each from the next one
+abbrev start : tie.In-loop Inv-loop μ-loop → tie.Start Inv-loop μ-loop
+start c = c .before .before .before
+
+abbrev at-loop : tie.After-transport-right Inv-loop μ-loop → tie.At-loop Inv-loop μ-loop
+at-loop c = c .before .before .before .before .before
+
+abbrev in-loop : tie.After-cell-right Inv-loop μ-loop → tie.In-loop Inv-loop μ-loop
+in-loop c = c .before .before
+
+abbrev turn : tie.Then3 Inv-loop μ-loop → tie.In-loop Inv-loop μ-loop
+turn c = in-loop (c .before .before)
+
 returns : tie.Need-returns Inv-loop μ-loop
 returns c = refuted _ (replicate 16 16) (replicate 16 0) (valid-long _ (c .if1 .taken))
 
@@ -63,12 +76,13 @@ there b i l e = rw (lt-ltb i (b .len) l) at e
 
 returns-2 : tie.Need-returns-2 Inv-loop μ-loop
 returns-2 c =
+    let t = in-loop (c .before) in
     let e = sym (c .before .cell-right .ensures) ∙ not-true _ (c .if2 .taken) in
-    refuted _ (replicate 16 16) (replicate 16 0) (valid-stop _ _ (c .before .before .before .loop-test .taken) (c .before .before .before .before .loop .inv .4) (cell-fails _ _ e))
+    refuted _ (replicate 16 16) (replicate 16 0) (valid-stop _ _ (t .loop-test .taken) (t .before .loop .inv .4) (cell-fails _ _ e))
 
 -- a resource that stands there is right
-resource-there : (c : tie.Then3 Inv-loop μ-loop) → resourceRight (resourceAt (c .before .before .before .before .before .before .before .args .t1) (c .before .before .before .before .before .loop .i)) ≡ true
-resource-there c = there (c .before .before .before .before .before .before .before .args .t1) (c .before .before .before .before .before .loop .i) (c .if3 .taken) (sym (c .before .before .cell-right .ensures) ∙ not-false _ (c .before .if2 .left))
+resource-there : (c : tie.Then3 Inv-loop μ-loop) → resourceRight (resourceAt (start (turn c) .args .t1) (turn c .before .loop .i)) ≡ true
+resource-there c = there (start (turn c) .args .t1) (turn c .before .loop .i) (c .if3 .taken) (sym (c .before .before .cell-right .ensures) ∙ not-false _ (c .before .if2 .left))
 
 cast-number : tie.Need-cast-number Inv-loop μ-loop
 cast-number c =
@@ -79,21 +93,22 @@ mul-if4 : tie.Need-mul-if4 Inv-loop μ-loop
 mul-if4 c = search needs
 
 array-read-if4 : tie.Need-array-read-if4 Inv-loop μ-loop
-array-read-if4 c = omega (arith, resource-number _ (resource-there (c .before)), c .before .before .before .before .before .before .loop .inv .3 .long)
+array-read-if4 c = omega (arith, resource-number _ (resource-there (c .before)), turn (c .before) .before .loop .inv .3 .long)
 
 returns-3 : tie.Need-returns-3 Inv-loop μ-loop
 returns-3 c =
-    let b = c .before .before .before .before .before .before .before .before .before .args .t1 in
-    let l = c .before .before .before .before .before .before .before .loop in
+    let t = turn (c .before .before) in
+    let b = start t .args .t1 in
+    let l = t .before .loop in
     let e = resource-there (c .before .before) in
     let d = seen-at b (l .i) (numberAt b (l .i)) (l .places) (l .inv .3) (omega arith) (omega arith) (omega (arith, resource-number _ e)) in
-    refuted _ (replicate 16 16) (replicate 16 0) (valid-stop _ _ (c .before .before .before .before .before .before .loop-test .taken) (l .inv .4) (cell-twice _ _ (omega arith) e (sym d ∙ lt-ltb _ _ (c .if4 .taken))))
+    refuted _ (replicate 16 16) (replicate 16 0) (valid-stop _ _ (t .loop-test .taken) (l .inv .4) (cell-twice _ _ (omega arith) e (sym d ∙ lt-ltb _ _ (c .if4 .taken))))
 
 mul-places : tie.Need-mul-places Inv-loop μ-loop
 mul-places c = search needs
 
 array-write-places : tie.Need-array-write-places Inv-loop μ-loop
-array-write-places c = omega (arith, resource-number _ (resource-there (c .before .before)), c .before .before .before .before .before .before .before .loop .inv .3 .long)
+array-write-places c = omega (arith, resource-number _ (resource-there (c .before .before)), turn (c .before .before) .before .loop .inv .3 .long)
 
 mul-lens : tie.Need-mul-lens Inv-loop μ-loop
 mul-lens c = search needs
@@ -109,11 +124,13 @@ loop-less c = search needs
 
 loop-again : tie.Need-loop-again Inv-loop μ-loop
 loop-again c =
-    let b = c .before .before .before .before .before .before .before .before .args .t1 in
-    let l = c .before .before .before .before .before .before .loop in
+    let d = c .before .before in
+    let t = in-loop (d .before) in
+    let b = start t .args .t1 in
+    let l = t .before .loop in
     let i = l .i in
     let s = l .inv .3 in
-    let e : answered b i ≡ true = sym (c .before .before .before .cell-right .ensures) ∙ not-false _ (c .before .before .if2 .left) in
+    let e : answered b i ≡ true = sym (d .before .cell-right .ensures) ∙ not-false _ (d .if2 .left) in
     let j : Seen b (min (i + 1) (b .len)) (c .before .if3 .places) × (cellRight b i ≡ true) =
     ⊎-elim
     (λ w.
@@ -123,17 +140,18 @@ loop-again c =
     (rw (w .3) (seen-next b i (l .places) s (omega arith) (omega (arith, resource-number _ r)) f), cell-right b i (omega arith) r f))
     (λ w. (rw (w .1) (seen-past b i (l .places) s (omega arith)), cell-past b i (w .0 .left) ∙ (rw (le-ltb i (b .len) (w .0 .left)) at e)))
     (c .before .if3 .came) in
-    (refl, omega arith, omega arith, j .0, valid-next b i (c .before .before .before .before .before .loop-test .taken) (l .inv .4) (j .1), length-set (l .lens) i _ ∙ l .inv .5, filled-next (λ k. resourceAt b k .timeline .len) (l .lens) i _ 0 (omega (arith, l .inv .5)) (l .inv .6) refl)
+    (refl, omega arith, omega arith, j .0, valid-next b i (t .loop-test .taken) (l .inv .4) (j .1), length-set (l .lens) i _ ∙ l .inv .5, filled-next (λ k. resourceAt b k .timeline .len) (l .lens) i _ 0 (omega (arith, l .inv .5)) (l .inv .6) refl)
 
 transport-right-requires : tie.Need-transport-right-requires Inv-loop μ-loop
 transport-right-requires c κs = search needs
 
 returns-4 : tie.Need-returns-4 Inv-loop μ-loop
 returns-4 c =
-    let b = c .before .before .before .before .before .before .before .args .t1 in
-    let s = read-all b (c .before .before .before .before .before .loop .i) (c .before .before .before .before .before .loop .places) (c .before .before .before .before .before .loop .inv .3) (omega arith) in
-    let r = c .before .before .before .before .before .loop .inv .6 in
-    (c .transport-right .ensures ∙ transport-same b (c .before .before .before .before .before .loop .places) s (omega arith) ∙ sym (valid-end b (c .before .before .before .before .before .loop .i) (omega arith) (c .before .before .before .before .before .loop .inv .4)), λ h. (s .place, (λ k l. r k (omega arith)), λ k l. rw (r k (omega arith)) (few-bookings b h k l)))
+    let a = at-loop c in
+    let b = a .before .before .args .t1 in
+    let s = read-all b (a .loop .i) (a .loop .places) (a .loop .inv .3) (omega arith) in
+    let r = a .loop .inv .6 in
+    (c .transport-right .ensures ∙ transport-same b (a .loop .places) s (omega arith) ∙ sym (valid-end b (a .loop .i) (omega arith) (a .loop .inv .4)), λ h. (s .place, (λ k l. r k (omega arith)), λ k l. rw (r k (omega arith)) (few-bookings b h k l)))
 
 pub places-of-spec : {M : Type 1} → statement M
 places-of-spec =

@@ -9,6 +9,10 @@ use Rattle.record_queries.proofs.Asking.{run-record, run-ask}
 use Rattle.record_queries.proofs.run_len.Statement.{statement}
 use Rattle.record_queries.proofs.run_len.Tie as tie
 
+-- the places that the proof looks back to, each from the next one
+abbrev start : tie.After-ask-len → tie.Start
+start c = c .before .before
+
 ask-len-requires : tie.Need-ask-len-requires
 ask-len-requires c κs = search needs
 
@@ -16,20 +20,22 @@ body-len-requires : tie.Need-body-len-requires
 body-len-requires c κs = search needs
 
 returns : tie.Need-returns
-returns c = (run-record _ _ _ _ _ (omega (arith, c .before .before .ask-len .ensures)) (c .body-len .ensures), omega (arith, c .body-len .ensures, body-le (c .before .before .before .before .args .kind) (c .before .before .before .before .args .bytes .now) (c .before .before .before .before .args .at) (c .before .before .before .before .args .len)))
+returns c =
+    let s = start (c .before .before) in
+    (run-record _ _ _ _ _ (omega (arith, c .before .before .ask-len .ensures)) (c .body-len .ensures), omega (arith, c .body-len .ensures, body-le (s .args .kind) (s .args .bytes .now) (s .args .at) (s .args .len)))
 
 sub-if2 : tie.Need-sub-if2
 sub-if2 c = search needs
 
 returns-2 : tie.Need-returns-2
 returns-2 c =
-    let a = c .before .before .before .before .args in
+    let a = start (c .before .before) .args in
     let q = c .before .before .ask-len .ensures in
     (run-ask _ _ _ _ _ (λ e. omega (arith, q)) (whole-cut (a .len - a .at) (askLen (a .kind)) (omega (arith, q))), omega arith)
 
 returns-3 : tie.Need-returns-3
 returns-3 c =
-    let a = c .before .before .before .before .args in
+    let a = start (c .before .before) .args in
     let q = c .before .before .ask-len .ensures in
     (run-ask _ _ _ _ _ (λ e. omega (arith, q)) (q ∙ whole-there (a .len - a .at) (askLen (a .kind)) (omega (arith, q))), omega arith)
 

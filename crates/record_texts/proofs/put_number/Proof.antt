@@ -8,6 +8,13 @@ use Rattle.record_texts.proofs.Figures.{digits-decimal}
 use Rattle.record_texts.proofs.put_number.Statement.{statement}
 use Rattle.record_texts.proofs.put_number.Tie as tie
 
+-- the places that the proof looks back to, each from the next one
+abbrev start : tie.After-decimal → tie.Start
+start c = c .before .before .before
+
+abbrev after-decimal : tie.After-slice-known2 → tie.After-decimal
+after-decimal c = c .before .before .before .before .before
+
 decimal-requires : tie.Need-decimal-requires
 decimal-requires c κs = search needs
 
@@ -19,8 +26,8 @@ same-length c = search needs
 
 returns : tie.Need-returns
 returns c =
-    let a = c .before .before .before .before .before .before .before .before .args in
-    let d = c .before .before .before .before .before .decimal in
+    let a = start (after-decimal c) .args in
+    let d = after-decimal c .decimal in
     let p = c .before .before .put-digits in
     let e : take (d .result) (d .last .1 .0) ≡ decimal (a .n) = d .ensures .1 .1 ∙ digits-decimal 19 (a .n) (d .result) (p .ensures .1) (d .ensures .1 .0) in
     (rw e at (p .ensures .0), omega (arith, p .ensures .0 .end, p .ensures .1, length-take (d .result) (d .last .1 .0)))

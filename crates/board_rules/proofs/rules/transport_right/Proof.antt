@@ -16,6 +16,10 @@ Inv-loop transport places k₀ k = (k ≤ 256) × (everyFrom (transportRightBy t
 abbrev μ-loop : tie.MeasureT-loop
 μ-loop transport places k₀ k = 256 - k
 
+-- the places that the proof looks back to, each from the next one
+abbrev in-loop : tie.After-transport-cell Inv-loop μ-loop → tie.In-loop Inv-loop μ-loop
+in-loop c = c .before .before .before .before
+
 loop-holds : tie.Need-loop-holds Inv-loop μ-loop
 loop-holds c = (omega arith, refl)
 
@@ -42,8 +46,9 @@ transport-cell-requires c κs = search needs
 
 returns : tie.Need-returns Inv-loop μ-loop
 returns c =
+    let t = in-loop (c .before) in
     let e = sym (c .before .transport-cell .ensures) ∙ not-true _ (c .if1 .taken) in
-    from-stop _ (c .before .before .before .before .before .before .loop .inv .1) (c .before .before .before .before .before .loop-test .taken) e
+    from-stop _ (t .before .loop .inv .1) (t .loop-test .taken) e
 
 add-k : tie.Need-add-k Inv-loop μ-loop
 add-k c = search needs
@@ -53,8 +58,9 @@ loop-less c = search needs
 
 loop-again : tie.Need-loop-again Inv-loop μ-loop
 loop-again c =
+    let t = in-loop (c .before) in
     let e = sym (c .before .transport-cell .ensures) ∙ not-false _ (c .if1 .left) in
-    (omega arith, from-more _ (c .before .before .before .before .before .before .loop .inv .1) (c .before .before .before .before .before .loop-test .taken) e)
+    (omega arith, from-more _ (t .before .loop .inv .1) (t .loop-test .taken) e)
 
 returns-2 : tie.Need-returns-2 Inv-loop μ-loop
 returns-2 c = from-done _ (c .before .loop .inv .1) (omega arith)

@@ -4,6 +4,13 @@ use Rattle.record_board.proofs.Ordering.{by-parts}
 use Rattle.record_board.proofs.order.order_by.Statement.{statement}
 use Rattle.record_board.proofs.order.order_by.Tie as tie
 
+-- the places that the proof looks back to, each from the next one
+abbrev after-duration-at : tie.After-number2 → tie.After-duration-at
+after-duration-at c = c .before .before .before .before
+
+abbrev after-number2 : tie.After-order-with → tie.After-number2
+after-number2 c = c .before .before .before
+
 add-duration-at : tie.Need-add-duration-at
 add-duration-at c = search needs
 
@@ -48,8 +55,10 @@ order-with-requires c κs = search needs
 
 returns : tie.Need-returns
 returns c =
-    let a = c .before .before .before .before .before .before .before .before .before .args in
-    by-parts (a .bytes .now) (a .at) _ _ _ _ _ _ (c .before .before .before .before .before .before .before .duration-at .ensures) (c .before .before .before .before .before .number .ensures .0) (c .before .before .before .before .release-of .ensures) (c .before .before .before .number2 .ensures .0) (c .order-with .ensures)
+    let n2 = after-number2 c in
+    let d = after-duration-at n2 in
+    let a = d .before .before .args in
+    by-parts (a .bytes .now) (a .at) _ _ _ _ _ _ (d .duration-at .ensures) (n2 .before .before .number .ensures .0) (n2 .before .release-of .ensures) (n2 .number2 .ensures .0) (c .order-with .ensures)
 
 pub order-by-spec : {M : Type 1} → statement M
 order-by-spec =

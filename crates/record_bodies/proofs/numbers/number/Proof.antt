@@ -15,6 +15,13 @@ Inv-loop bytes at n v₀ k₀ v k = (k ≤ n) × (n ≤ 8) × (at + n ≤ length
 abbrev μ-loop : tie.MeasureT-loop
 μ-loop bytes at n v₀ k₀ v k = k
 
+-- the places that the proof looks back to, each from the next one
+abbrev start : tie.At-loop Inv-loop μ-loop → tie.Start Inv-loop μ-loop
+start c = c .before .before
+
+abbrev at-loop : tie.After-wide Inv-loop μ-loop → tie.At-loop Inv-loop μ-loop
+at-loop c = c .before .before .before
+
 loop-holds : tie.Need-loop-holds Inv-loop μ-loop
 loop-holds c = (omega arith, omega arith, omega arith, little-none _ _ (c .before .args .n), small-none (c .before .args .n))
 
@@ -24,7 +31,7 @@ sub-k c = search needs
 mul-v : tie.Need-mul-v Inv-loop μ-loop
 mul-v c =
     let l = c .before .loop in
-    omega (arith, room (l .k) (c .before .before .before .args .n) (l .v) 0 (omega arith) (l .inv .0) (l .inv .1) (l .inv .4) (omega arith))
+    omega (arith, room (l .k) (start (c .before) .args .n) (l .v) 0 (omega arith) (l .inv .0) (l .inv .1) (l .inv .4) (omega arith))
 
 add-wide : tie.Need-add-wide Inv-loop μ-loop
 add-wide c = search needs
@@ -37,16 +44,16 @@ wide-requires c κs = search needs
 
 add-v : tie.Need-add-v Inv-loop μ-loop
 add-v c =
-    let l = c .before .before .before .loop in
-    omega (arith, room (l .k) (c .before .before .before .before .before .args .n) (l .v) (c .wide .result) (omega arith) (l .inv .0) (l .inv .1) (l .inv .4) (c .wide .ensures .1))
+    let l = at-loop c .loop in
+    omega (arith, room (l .k) (start (at-loop c) .args .n) (l .v) (c .wide .result) (omega arith) (l .inv .0) (l .inv .1) (l .inv .4) (c .wide .ensures .1))
 
 loop-less : tie.Need-loop-less Inv-loop μ-loop
 loop-less c = search needs
 
 loop-again : tie.Need-loop-again Inv-loop μ-loop
 loop-again c =
-    let l = c .before .before .before .loop in
-    let a = c .before .before .before .before .before .args in
+    let l = at-loop c .loop in
+    let a = start (at-loop c) .args in
     let e : c .wide .result ≡ getD (a .bytes .now) (a .at + (l .k - 1)) 0 = c .wide .ensures .0 in (
       omega arith,
       omega arith,
@@ -58,7 +65,7 @@ loop-again c =
 returns : tie.Need-returns Inv-loop μ-loop
 returns c =
     let l = c .before .loop in
-    let a = c .before .before .before .args in
+    let a = start (c .before) .args in
     let z : l .k ≡ 0 = omega arith in (
       little-end (a .bytes .now) (a .at) (l .k) (a .n) (l .v) z (l .inv .3),
       small-end (l .k) (a .n) (l .v) z (l .inv .4),

@@ -7,6 +7,16 @@ use Rattle.record_diary_text.specs.Lines.{textOf}
 use Rattle.record_diary_text.proofs.lines.put_fit.Statement.{statement}
 use Rattle.record_diary_text.proofs.lines.put_fit.Tie as tie
 
+-- the places that the proof looks back to, each from the next one
+abbrev after-put : tie.After-put-value → tie.After-put
+after-put c = c .before .before .before .before
+
+abbrev after-put-value2 : tie.After-slice-known5 → tie.After-put-value2
+after-put-value2 c = c .before .before .before .before .before .before .before
+
+abbrev after-put-value : tie.After-slice-known5 → tie.After-put-value
+after-put-value c = after-put-value2 c .before .before .before .before
+
 slice-aggregate-put : tie.Need-slice-aggregate-put
 slice-aggregate-put c = search needs
 
@@ -31,9 +41,9 @@ same-length c = search needs
 returns : tie.Need-returns
 unfolding textOf
 returns c =
-    let p = c .before .before .before .before .before .before .before .before .before .before .before .before .before .before .before .put in
-    let q = c .before .before .before .before .before .before .before .before .before .before .before .put-value in
-    let r = c .before .before .before .before .before .before .before .put-value2 in
+    let p = after-put (after-put-value c) .put in
+    let q = after-put-value c .put-value in
+    let r = after-put-value2 c .put-value2 in
     let s = c .before .before .put2 in (
       then _ (102 ∷ 105 ∷ 116 ∷ []) _ _ _ _ _ _ (omega arith) (p .ensures) (then _ _ _ _ _ _ _ _ (omega arith) (q .ensures .0) (then _ _ _ (10 ∷ []) _ _ _ _ (omega arith) (r .ensures .0) (s .ensures))),
       omega arith,

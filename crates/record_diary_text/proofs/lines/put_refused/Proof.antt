@@ -7,6 +7,13 @@ use Rattle.record_diary_text.specs.Lines.{textOf}
 use Rattle.record_diary_text.proofs.lines.put_refused.Statement.{statement}
 use Rattle.record_diary_text.proofs.lines.put_refused.Tie as tie
 
+-- the places that the proof looks back to, each from the next one
+abbrev after-put : tie.After-put-number → tie.After-put
+after-put c = c .before .before .before .before
+
+abbrev after-put-number : tie.After-slice-known4 → tie.After-put-number
+after-put-number c = c .before .before .before .before .before .before .before
+
 slice-aggregate-put : tie.Need-slice-aggregate-put
 slice-aggregate-put c = search needs
 
@@ -28,8 +35,8 @@ same-length c = search needs
 returns : tie.Need-returns
 unfolding textOf
 returns c =
-    let p = c .before .before .before .before .before .before .before .before .before .before .before .put in
-    let q = c .before .before .before .before .before .before .before .put-number in
+    let p = after-put (after-put-number c) .put in
+    let q = after-put-number c .put-number in
     let r = c .before .before .put2 in (
       then _ (114 ∷ 101 ∷ 102 ∷ 117 ∷ 115 ∷ 101 ∷ 100 ∷ 32 ∷ []) _ _ _ _ _ _ (omega arith) (p .ensures) (then _ _ _ (10 ∷ []) _ _ _ _ (omega arith) (q .ensures .0) (r .ensures)),
       omega arith,
