@@ -13,9 +13,17 @@ ghost use Rattle.scheduler.specs.Placing.{rowOf, slateAfter, placeRefusal, plac
 ghost use Rattle.place_entries.specs.Cells.{firstEntries};
 ghost use Rattle.placing.specs.Told.{told};
 
-// What placing answers: choosing instant, start, end and how many entries; 'chosen, none' with the choosing instant; none; a refusal.
-pub enum Placement {
-    Placed(u64, u64, u64, usize),
+// The numbers of a placement: the choosing instant, the start and the end, and how many entries stand at the front of the slate.
+pub struct Placed {
+    pub choosing: u64,
+    pub start: u64,
+    pub end: u64,
+    pub count: usize,
+}
+
+// What placing answers: a placement, 'chosen, none' with the choosing instant, none, or a refusal.
+pub enum PlaceReply {
+    Placed(Placed),
     ChosenNone(u64),
     None,
     Refused(u8),
@@ -55,14 +63,14 @@ fn place_refusal(right: bool, a: Activity, ready: u64, slate: usize) -> u8
 
 // Places the order from ready on, and writes the entries of a placement at the front of the slate; or refuses: 15 a board or an own
 // calendar that breaks the rules, 7 a slate under 24 entries, then the order's refusals.
-pub fn place_activity(b: Board, a: Activity, ready: u64, slate: &mut [[u64; 4]]) -> Placement
+pub fn place_activity(b: Board, a: Activity, ready: u64, slate: &mut [[u64; 4]]) -> PlaceReply
     ensures { λ r. ⌜ r ≡ told (placeReply b a ready (length (now (slate .entry)))) ⌝ }
     ensures { λ _. ⌜ now (slate .exit) ≡ slateAfter (placeReply b a ready (length (now (slate .entry)))) (now (slate .entry)) ⌝ }
 {
     let p = board_rules::places_of(b);
     let refusal = place_refusal(p.right, a, ready, slate.len());
     if refusal != 0 {
-        return Placement::Refused(refusal);
+        return PlaceReply::Refused(refusal);
     }
     let places = p.places;
     let release = a.release;
@@ -72,7 +80,7 @@ pub fn place_activity(b: Board, a: Activity, ready: u64, slate: &mut [[u64; 4]])
     if a.len != 0 {
         let c = place_choice::choose(b, a, t, places);
         if !c.chosen {
-            return Placement::None;
+            return PlaceReply::None;
         }
         let held = c.held;
         let plans = c.plans;
@@ -89,8 +97,13 @@ pub fn place_activity(b: Board, a: Activity, ready: u64, slate: &mut [[u64; 4]])
     match f {
         Fit::At(s, end) => {
             write(slate, e);
-            Placement::Placed(t, s, end, e.count)
+            PlaceReply::Placed(Placed {
+                choosing: t,
+                start: s,
+                end: end,
+                count: e.count,
+            })
         }
-        Fit::Nothing => Placement::ChosenNone(t),
+        Fit::Nothing => PlaceReply::ChosenNone(t),
     }
 }

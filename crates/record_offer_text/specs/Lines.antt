@@ -5,8 +5,9 @@ use lib.ListN.{getD, take}
 use Rattle.record_texts.specs.Text.{decimal}
 use Rattle.timeline.specs.Ask.{none, refused}
 use Rattle.record_diary_text.specs.Lines as slot
+use Rattle.placing.specs.declared.Placed.{Placed}
 use Rattle.record_offer.specs.declared.OfferAnswer.{OfferAnswer}
-use Rattle.record_offer.specs.declared.OfferAnswer.the-variants.{Nothing, Placed, Chosen, None, Committed, Refused}
+use Rattle.record_offer.specs.declared.OfferAnswer.the-variants as answer
 use Rattle.record_offer.specs.Offers.{shown}
 
 -- a space and a number
@@ -14,8 +15,10 @@ abbrev pub value : ℕ → List ℕ
 value n = 32 ∷ decimal n
 
 -- `placed CHOOSING START END COUNT`; 10 is the line's end
-unfoldable pub placedText : ℕ → ℕ → ℕ → ℕ → List ℕ
-placedText t s e n = (112 ∷ 108 ∷ 97 ∷ 99 ∷ 101 ∷ 100 ∷ []) ++ (value t ++ (value s ++ (value e ++ (value n ++ (10 ∷ [])))))
+unfoldable pub placedText : Placed → List ℕ
+placedText p =
+    (112 ∷ 108 ∷ 97 ∷ 99 ∷ 101 ∷ 100 ∷ [])
+    ++ (value (p .choosing) ++ (value (p .start) ++ (value (p .end) ++ (value (p .count) ++ (10 ∷ [])))))
 
 -- `chosen CHOOSING none`
 unfoldable pub chosenText : ℕ → List ℕ
@@ -33,12 +36,12 @@ entriesText (row ∷ rows) = entryText row ++ entriesText rows
 
 -- `none` and `refused N` as in `slot`; `committed`
 unfoldable pub lineText : OfferAnswer → List ℕ
-lineText Nothing = []
-lineText (Placed t s e n) = placedText t s e n
-lineText (Chosen t) = chosenText t
-lineText None = slot.textOf (slot.line none)
-lineText Committed = 99 ∷ 111 ∷ 109 ∷ 109 ∷ 105 ∷ 116 ∷ 116 ∷ 101 ∷ 100 ∷ 10 ∷ []
-lineText (Refused n) = slot.textOf (slot.line (refused n))
+lineText answer.Nothing = []
+lineText (answer.Placed p) = placedText p
+lineText (answer.Chosen t) = chosenText t
+lineText answer.None = slot.textOf (slot.line none)
+lineText answer.Committed = 99 ∷ 111 ∷ 109 ∷ 109 ∷ 105 ∷ 116 ∷ 116 ∷ 101 ∷ 100 ∷ 10 ∷ []
+lineText (answer.Refused n) = slot.textOf (slot.line (refused n))
 
 -- the line, and behind a placement's its entries
 unfoldable pub textOf : OfferAnswer → List (List ℕ) → List ℕ

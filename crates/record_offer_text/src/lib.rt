@@ -1,5 +1,6 @@
 // The text that an answer of `offer` prints (docs/RECORDS.md): its line and, behind a placement's, a line for each entry of the slate that
 // it speaks of.
+use placing::Placed;
 use record_diary_text::Line;
 use record_offer::OfferAnswer;
 use record_texts::put;
@@ -41,16 +42,16 @@ fn put_entries(out: &mut [u8], at: usize, slate: &[[u64; 4]], count: usize) -> u
 }
 
 // `placed CHOOSING START END COUNT`.
-fn put_placed(out: &mut [u8], at: usize, choosing: u64, start: u64, end: u64, count: usize) -> usize
+fn put_placed(out: &mut [u8], at: usize, p: Placed) -> usize
     requires { ⌜ at + 91 ≤ length (now out) ⌝ }
-    ensures { λ r. ⌜ Put (now (out .entry)) at (placedText choosing start end count) (now (out .exit)) r ⌝ }
+    ensures { λ r. ⌜ Put (now (out .entry)) at (placedText p) (now (out .exit)) r ⌝ }
     ensures { λ r. ⌜ r ≤ at + 91 ⌝ }
 {
     let a = put(out, at, b"placed");
-    let b = put_value(out, a, choosing);
-    let c = put_value(out, b, start);
-    let d = put_value(out, c, end);
-    let e = put_value(out, d, count as u64);
+    let b = put_value(out, a, p.choosing);
+    let c = put_value(out, b, p.start);
+    let d = put_value(out, c, p.end);
+    let e = put_value(out, d, p.count as u64);
     put(out, e, b"\n")
 }
 
@@ -73,14 +74,7 @@ fn put_line(out: &mut [u8], at: usize, answer: OfferAnswer) -> usize
 {
     match answer {
         OfferAnswer::Nothing => at,
-        OfferAnswer::Placed(choosing, start, end, count) => put_placed(
-            out,
-            at,
-            choosing,
-            start,
-            end,
-            count,
-        ),
+        OfferAnswer::Placed(p) => put_placed(out, at, p),
         OfferAnswer::Chosen(choosing) => put_chosen(out, at, choosing),
         OfferAnswer::None => record_diary_text::text(Line::None, out, at),
         OfferAnswer::Committed => put(out, at, b"committed\n"),
@@ -94,7 +88,7 @@ fn shown(answer: OfferAnswer) -> usize
 {
     match answer {
         OfferAnswer::Nothing => 0,
-        OfferAnswer::Placed(choosing, start, end, count) => count,
+        OfferAnswer::Placed(p) => p.count,
         OfferAnswer::Chosen(choosing) => 0,
         OfferAnswer::None => 0,
         OfferAnswer::Committed => 0,

@@ -112,6 +112,10 @@ order p q timings = record {
 abbrev pub entry : ℕ → Entry
 entry number = record { number = number; setup = 0; units = 1; companion = false }
 
+-- the reply of a placement: choosing instant, start, end, entries
+abbrev pub placedAt : ℕ → ℕ → ℕ → List Entry → Reply
+placedAt t s e es = placed (record { choosing = t; start = s; end = e; entries = es })
+
 abbrev pub free1 : ResourceTimeline
 free1 = diary 1 empty []
 
@@ -156,10 +160,10 @@ replies =
     ∷ diaryReply (asking.fit 75 100)
     ∷ ms 501
     ∷ ms 667
-    ∷ placement (placed 0 0 30 (entry 1 ∷ []))
-    ∷ placement (placed 100 100 130 (entry 0 ∷ entry 1 ∷ []))
-    ∷ placement (placed 0 0 100 (entry 0 ∷ entry 1 ∷ []))
-    ∷ placement (placed 160 160 260 (entry 0 ∷ entry 1 ∷ []))
+    ∷ placement (placedAt 0 0 30 (entry 1 ∷ []))
+    ∷ placement (placedAt 100 100 130 (entry 0 ∷ entry 1 ∷ []))
+    ∷ placement (placedAt 0 0 100 (entry 0 ∷ entry 1 ∷ []))
+    ∷ placement (placedAt 160 160 260 (entry 0 ∷ entry 1 ∷ []))
     ∷ []
 
 pub runs : map run marked ≡ replies
@@ -183,7 +187,7 @@ placementIn (ms n) = none
 placementIn (placement r) = r
 
 -- M11's first placing, by itself
-pub first-placed : placeReply (boardOf (booked free1 0 100) free1) (order 30 1 []) 0 24 ≡ placed 0 0 30 (entry 1 ∷ [])
+pub first-placed : placeReply (boardOf (booked free1 0 100) free1) (order 30 1 []) 0 24 ≡ placedAt 0 0 30 (entry 1 ∷ [])
 unfolding run placementIn
 first-placed = ap (λ (l : List Result). placementIn (getD l 15 (ms 0))) runs
 
@@ -194,7 +198,7 @@ pub companion-joins :
       len = 2;
       transport = replicate 256 0;
     }) (order 100 1 (record { timing = Nothing } ∷ at two ∷ [])) 0 24
-    ≡ placed 0 0 100 (entry 0 ∷ record { number = 1; setup = 0; units = 1; companion = true } ∷ [])
+    ≡ placedAt 0 0 100 (entry 0 ∷ record { number = 1; setup = 0; units = 1; companion = true } ∷ [])
 unfolding eq le mul div ofInt leastFrom spansFrom any holds meets contains calendar.cellRight everyFrom calendar.spansRight calendar.valid
     openFor fits working joint endFrom workEnd latest lastChange empty bookingsTo total latestEnd before timeline.cellRight
     timeline.cellEmpty timeline.valid overlaps onAt tally load free fitsAt freeTo startsAt lastEvent earliestFit earliestResumable
