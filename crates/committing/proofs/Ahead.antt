@@ -1,6 +1,6 @@
 -- Booking the lines of a slate: what holds of the board and of the lines that are left, one line more.
 use mathlib.Core.Path.{_≡_, refl, sym, ap, _∙_, subst}
-use mathlib.Core.Bool.{true, false, not, cond}
+use mathlib.Core.Bool.{Bool, true, false, cond}
 use mathlib.Core.List.{List, [], _∷_}
 use Prim.Native.Nat.{ℕ, suc, _+_, _-_, _^_, _≤_, _<_}
 use native.Mathlib.Omega.{arith}
@@ -23,7 +23,8 @@ use Rattle.board.specs.Enter.{withResource, changed}
 use Rattle.board.specs.Laws.Facts.{rules}
 use Rattle.board.specs.Theorems.Meaning.{resource-of}
 use Rattle.scheduler.specs.Alone.{diaryOf}
-use Rattle.scheduler.specs.Committing.{Line, lineOf, linesOf, entriesOn, lastAfter, booked, bookAll, Bookable}
+use Rattle.scheduler.specs.Rows.{numberIn, unitsIn, isCompanion}
+use Rattle.scheduler.specs.Committing.{Line, lineWith, lineOf, linesOf, entriesOn, lastAfter, booked, bookAll, Bookable}
 use Rattle.scheduler.specs.Laws.Committed.{BookableLine, Room, step-long, lookup-after, after-keeps, right-after, room-after}
 use Rattle.cells.specs.Every.{Each}
 use Rattle.cells.specs.Laws.Each.{each-weaken, each-first, each-rest}
@@ -104,10 +105,6 @@ pub record Here (b : Board) (number place units : ℕ) : Type 0 where
   pub some : 1 ≤ units
   pub few : units ≤ 10000
 
--- the same of a row of the slate
-abbrev pub RowHere : Board → List ℕ → List ℕ → Type 0
-RowHere b places row = Here b (getD row 0 0) (getD places (getD row 0 0) 0) (getD row 2 0)
-
 pub ahead-none : (start end category : ℕ) (places : List ℕ) (whole b : Board) (ls : List Line) → ls ≡ [] → Ahead start end category places whole b ls → b ≡ whole
 unfolding bookAll
 ahead-none start end category places whole b ls e a = sym (ap (λ (ks : List Line). bookAll start end category ks b) e) ∙ a .same
@@ -168,18 +165,18 @@ module _ (start end category : ℕ) (places : List ℕ) (whole b : Board) (slate
   abbrev row : List ℕ
   row = getD slate i []
 
-  abbrev at-row : ℕ
-  at-row = getD places (getD row 0 0) 0
-
   left : Ahead start end category places whole b (lineOf row ∷ linesOf (count - (i + 1)) (drop (i + 1) slate))
   left = subst (Ahead start end category places whole b) (lines-left slate i count l m) a
 
-  pub row-here : RowHere b places row
-  unfolding lineOf
-  row-here = ahead-here start end category places whole b (lineOf row) (linesOf (count - (i + 1)) (drop (i + 1) slate)) left
+  -- what the code read of the row
+  module _ (n : ℕ) (e : n ≡ numberIn row) where
+    pub row-here : Here b n (getD places n 0) (unitsIn row)
+    unfolding lineOf
+    row-here = rw e (ahead-here start end category places whole b (lineOf row) (linesOf (count - (i + 1)) (drop (i + 1) slate)) left)
 
-  -- what is booked does not depend on the number that the line names
-  pub row-next : Bookable start end category → (x : Resource) (number : ℕ) → x ≡ booked start end category (record { number = number; units = getD row 2 0; companion = not (eqb (getD row 3 0) 0) }) (resourceAt b at-row)
-      → Ahead start end category places whole (withResource b at-row x) (linesOf (count - (i + 1)) (drop (i + 1) slate))
-  unfolding lineOf booked
-  row-next w x number e = ahead-next start end category places whole b (lineOf row) (linesOf (count - (i + 1)) (drop (i + 1) slate)) left w x e
+    -- what is booked does not depend on the number that the line names
+    pub row-next : Bookable start end category → (units : ℕ) (companion : Bool) → units ≡ unitsIn row → companion ≡ isCompanion row
+        → (x : Resource) (name : ℕ) → x ≡ booked start end category (lineWith name units companion) (resourceAt b (getD places n 0))
+        → Ahead start end category places whole (withResource b (getD places n 0) x) (linesOf (count - (i + 1)) (drop (i + 1) slate))
+    unfolding lineOf booked
+    row-next w units companion f g x name h = rw e (ahead-next start end category places whole b (lineOf row) (linesOf (count - (i + 1)) (drop (i + 1) slate)) left w x (rw (e, f, g) at h))

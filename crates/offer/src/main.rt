@@ -4,17 +4,13 @@ use record_desk::Desk;
 use record_offer::OfferAnswer;
 use record_offer::OfferTurn;
 use record_streams::Input;
+use scheduler::rows::BLANK_ROW;
+use scheduler::rows::Row;
 ghost use Prim.Native.Nat.{_+_, _≤_};
 ghost use Rattle.record_offer.specs.Offers.{shown};
 
 // The next record.
-fn next(
-    desk: Desk,
-    slate: &mut [[u64; 4]; 24],
-    buf: &[u8; 65536],
-    at: usize,
-    len: usize,
-) -> OfferTurn
+fn next(desk: Desk, slate: &mut [Row; 24], buf: &[u8; 65536], at: usize, len: usize) -> OfferTurn
     requires { ⌜ (at ≤ len) × (len ≤ 65536) ⌝ }
     ensures { λ r. ⌜ (r .at ≤ len) × (shown (r .answer) ≤ 24) ⌝ }
 {
@@ -22,7 +18,7 @@ fn next(
 }
 
 // Puts what an answer prints behind what waits.
-fn print(answer: OfferAnswer, slate: &[[u64; 4]; 24], out: &mut [u8; 65536], used: usize) -> usize
+fn print(answer: OfferAnswer, slate: &[Row; 24], out: &mut [u8; 65536], used: usize) -> usize
     requires { ⌜ (shown answer ≤ 24) × (used + 2251 ≤ 65536) ⌝ }
     ensures { λ r. ⌜ r ≤ 65536 ⌝ }
 {
@@ -34,7 +30,7 @@ fn print(answer: OfferAnswer, slate: &[[u64; 4]; 24], out: &mut [u8; 65536], use
 fn main() {
     let mut buf = io::large_buffer();
     let mut out = io::large_buffer();
-    let mut slate: [[u64; 4]; 24] = [[0; 4]; 24];
+    let mut slate: [Row; 24] = [BLANK_ROW; 24];
     let mut desk = Desk::new();
     let mut s = Input {
         at: 0,

@@ -18,7 +18,8 @@ use Rattle.scheduler.specs.declared.Entry.{Entry}
 use Rattle.scheduler.specs.Alone.{Share}
 use Rattle.scheduler.specs.Fitting.{sharesOf, fitting, endOf}
 use Rattle.scheduler.specs.Placing as placement
-use Rattle.scheduler.specs.Placing.{Reply, chosenNone, started, fitted, placeRefusal, rowOf, slateAfter}
+use Rattle.scheduler.specs.Placing.{Reply, chosenNone, started, fitted, placeRefusal, slateAfter}
+use Rattle.scheduler.specs.Rows.{rowOf}
 use Rattle.place_fit.specs.Closing.{withEnd, closing}
 use Rattle.placing.specs.Told.{placedOf, told}
 use Rattle.placing.specs.declared.PlaceReply.the-variants as reply

@@ -3,13 +3,15 @@ use activity::Activity;
 use board::Board;
 use place_entries::Entries;
 use place_fit::Fit;
+use scheduler::rows::Row;
 ghost use mathlib.Core.Path.{_≡_};
 ghost use mathlib.Core.List.{_++_, map};
 ghost use Prim.Native.Nat.{_≤_};
 ghost use lib.ListN.{length, drop};
 ghost use Rattle.board.specs.declared.Board as declared;
 ghost use Rattle.board.specs.Valid.{valid};
-ghost use Rattle.scheduler.specs.Placing.{rowOf, slateAfter, placeRefusal, placeReply};
+ghost use Rattle.scheduler.specs.Placing.{slateAfter, placeRefusal, placeReply};
+ghost use Rattle.scheduler.specs.Rows.{rowOf};
 ghost use Rattle.place_entries.specs.Cells.{firstEntries};
 ghost use Rattle.placing.specs.Told.{told};
 
@@ -30,7 +32,7 @@ pub enum PlaceReply {
 }
 
 // Writes the entries at the front of the slate.
-fn write(slate: &mut [[u64; 4]], e: Entries)
+fn write(slate: &mut [Row], e: Entries)
     requires { ⌜ (e .count ≤ 24) × (24 ≤ length (now slate)) ⌝ }
     ensures { λ _. ⌜ now (slate .exit) ≡ map rowOf (firstEntries e) ++ drop (e .count) (now (slate .entry)) ⌝ }
 {
@@ -38,7 +40,7 @@ fn write(slate: &mut [[u64; 4]], e: Entries)
     let mut i: usize = 0;
     while i < n {
         let x = e.entries[i];
-        let row = scheduler::row_of(x);
+        let row = scheduler::rows::row_of(x);
         slate[i] = row;
         i += 1;
     }
@@ -63,7 +65,7 @@ fn place_refusal(right: bool, a: Activity, ready: u64, slate: usize) -> u8
 
 // Places the order from ready on, and writes the entries of a placement at the front of the slate; or refuses: 15 a board or an own
 // calendar that breaks the rules, 7 a slate under 24 entries, then the order's refusals.
-pub fn place_activity(b: Board, a: Activity, ready: u64, slate: &mut [[u64; 4]]) -> PlaceReply
+pub fn place_activity(b: Board, a: Activity, ready: u64, slate: &mut [Row]) -> PlaceReply
     ensures { λ r. ⌜ r ≡ told (placeReply b a ready (length (now (slate .entry)))) ⌝ }
     ensures { λ _. ⌜ now (slate .exit) ≡ slateAfter (placeReply b a ready (length (now (slate .entry)))) (now (slate .entry)) ⌝ }
 {

@@ -9,7 +9,8 @@ use lib.Dec.{leb, eqb}
 use borrow.Author.Tests.{le-leb, lt-leb, eq-eqb, ne-eqb}
 use Rattle.record_bodies.specs.Numbers.{little}
 use Rattle.board.specs.declared.Entered.{Entered}
-use Rattle.scheduler.specs.Placing.{Reply, placed, chosenNone, none, refused, rowOf, slateAfter, placeReply}
+use Rattle.scheduler.specs.Placing.{Reply, placed, chosenNone, none, refused, slateAfter, placeReply}
+use Rattle.scheduler.specs.Rows.{rowOf}
 use Rattle.scheduler.specs.Committing.{commitReply}
 use Rattle.placing.specs.declared.PlaceReply.{PlaceReply}
 use Rattle.placing.specs.Told as placed

@@ -7,6 +7,7 @@ use record_board::step;
 use record_bodies::body_len;
 use record_bodies::number;
 use record_desk::Desk;
+use scheduler::rows::Row;
 ghost use mathlib.Core.Path.{_≡_};
 ghost use Prim.Native.Nat.{_+_, _≤_};
 ghost use lib.ListN.{length};
@@ -60,7 +61,7 @@ fn answer_of(r: PlaceReply) -> OfferAnswer
 }
 
 // Kind 25: places the order in hand, on the slate.
-fn place(desk: Desk, slate: &mut [[u64; 4]], bytes: &[u8], at: usize) -> OfferAnswer
+fn place(desk: Desk, slate: &mut [Row], bytes: &[u8], at: usize) -> OfferAnswer
     requires { ⌜ at + 8 ≤ length (now bytes) ⌝ }
     ensures { λ r. ⌜ r ≡ placedAnswer desk (now (slate .entry)) (now (bytes .entry)) at ⌝ }
     ensures { λ _. ⌜ now (slate .exit) ≡ slateAfter (placingOf desk (now (slate .entry)) (now (bytes .entry)) at) (now (slate .entry)) ⌝ }
@@ -71,7 +72,7 @@ fn place(desk: Desk, slate: &mut [[u64; 4]], bytes: &[u8], at: usize) -> OfferAn
 }
 
 // Kind 26: commits the first entries of the slate, with the order's category.
-fn commit(desk: Desk, slate: &[[u64; 4]], bytes: &[u8], at: usize) -> DeskStepped
+fn commit(desk: Desk, slate: &[Row], bytes: &[u8], at: usize) -> DeskStepped
     requires { ⌜ at + 20 ≤ length (now bytes) ⌝ }
     ensures { λ r. ⌜ r ≡ commitDoes desk (now (slate .entry)) (now (bytes .entry)) at ⌝ }
 {
@@ -124,7 +125,7 @@ fn told(s: DeskStepped, answer: OfferAnswer, at: usize) -> OfferTurn
 
 // The record that begins at `at`, `len` being the end of the input: nothing where the input ends here, 9 for an unknown kind or a
 // cut body.
-pub fn record(desk: Desk, slate: &mut [[u64; 4]], bytes: &[u8], at: usize, len: usize) -> OfferTurn
+pub fn record(desk: Desk, slate: &mut [Row], bytes: &[u8], at: usize, len: usize) -> OfferTurn
     requires { ⌜ (at ≤ len) × (len ≤ length (now bytes)) ⌝ }
     ensures { λ r. ⌜ (r ≡ turnReply desk (now (slate .entry)) (now (bytes .entry)) at len) × (r .at ≤ len) ⌝ }
     ensures { λ r. ⌜ SlateTurned desk (now (slate .entry)) (now (bytes .entry)) at len (now (slate .exit)) (r .answer) ⌝ }

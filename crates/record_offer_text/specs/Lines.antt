@@ -1,10 +1,11 @@
 -- What an answer of `offer` prints, as bytes (docs/RECORDS.md).
 use Prim.Native.Nat.{ℕ}
 use mathlib.Core.List.{List, [], _∷_, _++_}
-use lib.ListN.{getD, take}
+use lib.ListN.{take}
 use Rattle.record_texts.specs.Text.{decimal}
 use Rattle.timeline.specs.Ask.{none, refused}
 use Rattle.record_diary_text.specs.Lines as slot
+use Rattle.scheduler.specs.Rows.{numberIn, setupIn, unitsIn, companionIn}
 use Rattle.placing.specs.declared.Placed.{Placed}
 use Rattle.record_offer.specs.declared.OfferAnswer.{OfferAnswer}
 use Rattle.record_offer.specs.declared.OfferAnswer.the-variants as answer
@@ -28,7 +29,7 @@ chosenText t = (99 ∷ 104 ∷ 111 ∷ 115 ∷ 101 ∷ 110 ∷ []) ++ (value t +
 unfoldable pub entryText : List ℕ → List ℕ
 entryText row =
     (101 ∷ 110 ∷ 116 ∷ 114 ∷ 121 ∷ [])
-    ++ (value (getD row 0 0) ++ (value (getD row 1 0) ++ (value (getD row 2 0) ++ (value (getD row 3 0) ++ (10 ∷ [])))))
+    ++ (value (numberIn row) ++ (value (setupIn row) ++ (value (unitsIn row) ++ (value (companionIn row) ++ (10 ∷ [])))))
 
 unfoldable pub entriesText : List (List ℕ) → List ℕ
 entriesText [] = []

@@ -5,6 +5,11 @@ use record_diary_text::Line;
 use record_offer::OfferAnswer;
 use record_texts::put;
 use record_texts::put_value;
+use scheduler::rows::Row;
+use scheduler::rows::companion_in;
+use scheduler::rows::number_in;
+use scheduler::rows::setup_in;
+use scheduler::rows::units_in;
 ghost use mathlib.Core.Path.{_≡_};
 ghost use Prim.Native.Nat.{_+_, _*_, _≤_};
 ghost use lib.ListN.{length, take};
@@ -13,21 +18,21 @@ ghost use Rattle.record_offer.specs.Offers.{shown as shownOf};
 ghost use Rattle.record_offer_text.specs.Lines.{entryText, entriesText, lineText, textOf, placedText, chosenText};
 
 // `entry NUMBER SETUP UNITS COMPANION`.
-fn put_entry(out: &mut [u8], at: usize, row: [u64; 4]) -> usize
+fn put_entry(out: &mut [u8], at: usize, row: Row) -> usize
     requires { ⌜ at + 90 ≤ length (now out) ⌝ }
     ensures { λ r. ⌜ Put (now (out .entry)) at (entryText row) (now (out .exit)) r ⌝ }
     ensures { λ r. ⌜ r ≤ at + 90 ⌝ }
 {
     let a = put(out, at, b"entry");
-    let b = put_value(out, a, row[0]);
-    let c = put_value(out, b, row[1]);
-    let d = put_value(out, c, row[2]);
-    let e = put_value(out, d, row[3]);
+    let b = put_value(out, a, number_in(row));
+    let c = put_value(out, b, setup_in(row));
+    let d = put_value(out, c, units_in(row));
+    let e = put_value(out, d, companion_in(row));
     put(out, e, b"\n")
 }
 
 // The first entries of the slate.
-fn put_entries(out: &mut [u8], at: usize, slate: &[[u64; 4]], count: usize) -> usize
+fn put_entries(out: &mut [u8], at: usize, slate: &[Row], count: usize) -> usize
     requires { ⌜ (count ≤ length (now slate)) × (at + 90 * count ≤ length (now out)) ⌝ }
     ensures { λ r. ⌜ Put (now (out .entry)) at (entriesText (take count (now (slate .entry)))) (now (out .exit)) r ⌝ }
     ensures { λ r. ⌜ r ≤ at + 90 * count ⌝ }
@@ -97,7 +102,7 @@ fn shown(answer: OfferAnswer) -> usize
 }
 
 // Puts all that an answer prints, at most 2,251 bytes, into out from `at` on, and answers where it ends.
-pub fn text(answer: OfferAnswer, slate: &[[u64; 4]], out: &mut [u8], at: usize) -> usize
+pub fn text(answer: OfferAnswer, slate: &[Row], out: &mut [u8], at: usize) -> usize
     requires { ⌜ (shownOf answer ≤ length (now slate)) × (shownOf answer ≤ 24) × (at + 2251 ≤ length (now out)) ⌝ }
     ensures { λ r. ⌜ Put (now (out .entry)) at (textOf answer (now (slate .entry))) (now (out .exit)) r ⌝ }
     ensures { λ r. ⌜ r ≤ at + 2251 ⌝ }

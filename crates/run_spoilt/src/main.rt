@@ -5,6 +5,7 @@ use activity::Activity;
 use board::Board;
 use board::Entered;
 use placing::PlaceReply;
+use scheduler::rows::Row;
 
 mod bases;
 mod random;
@@ -146,26 +147,26 @@ fn lent(x: u64) -> usize
 }
 
 // Places on the first `len` rows of a slate.
-fn place_front(b: Board, a: Activity, ready: u64, slate: &mut [[u64; 4]], len: usize) -> PlaceReply
+fn place_front(b: Board, a: Activity, ready: u64, slate: &mut [Row], len: usize) -> PlaceReply
     requires { ⌜ len ≤ length (now slate) ⌝ }
 {
     placing::place_activity(b, a, ready, &mut slate[..len])
 }
 
 // Places on as many rows as `x` says.
-fn place(b: Board, a: Activity, ready: u64, slate: &mut [[u64; 4]; 32], x: u64) -> PlaceReply {
+fn place(b: Board, a: Activity, ready: u64, slate: &mut [Row; 32], x: u64) -> PlaceReply {
     place_front(b, a, ready, slate, lent(x))
 }
 
 // Commits from the first `len` rows of a slate.
-fn commit_front(b: Board, slate: &[[u64; 4]], len: usize, c: Commitment) -> Entered
+fn commit_front(b: Board, slate: &[Row], len: usize, c: Commitment) -> Entered
     requires { ⌜ len ≤ length (now slate) ⌝ }
 {
     committing::commit(b, &slate[..len], c.count, c.start, c.end, c.category)
 }
 
 // Commits from as many rows as `x` says.
-fn commit(b: Board, slate: &[[u64; 4]; 32], x: u64, c: Commitment) -> Entered {
+fn commit(b: Board, slate: &[Row; 32], x: u64, c: Commitment) -> Entered {
     commit_front(b, slate, lent(x), c)
 }
 

@@ -17,6 +17,7 @@ use Rattle.scheduler.specs.Alone.{Share, spanOf}
 use Rattle.scheduler.specs.Choosing.{Choice, noChoice, chosen, choosing}
 use Rattle.scheduler.specs.declared.Entry.{Entry}
 use Rattle.scheduler.specs.Fitting.{entriesOf, spanTogether, sharesOf, fitting, endOf}
+use Rattle.scheduler.specs.Rows.{rowOf}
 
 -- a placement: the choosing instant, the start and the end, and the entries
 pub record Placement : Type 0 where
@@ -72,10 +73,6 @@ placeRefusal b a ready slate =
 -- what placing replies, the slate having so many entries
 unfoldable pub placeReply : Board → Activity → ℕ → ℕ → Reply
 placeReply b a ready slate = refusedOr refused (placeRefusal b a ready slate) (placing b a (readyOf (a .release) ready))
-
--- an entry on the slate: number, setup, units, companion 0 or 1
-unfoldable pub rowOf : Entry → List ℕ
-rowOf e = e .number ∷ e .setup ∷ e .units ∷ cond (e .companion) 1 0 ∷ []
 
 -- a placement stands at the front of the slate, and nothing else is written
 unfoldable pub slateAfter : Reply → List (List ℕ) → List (List ℕ)

@@ -3,7 +3,7 @@ use Prim.Native.Nat.{ℕ, _≤_}
 use mathlib.Core.Path.{_≡_, refl, sym, ap, _∙_, subst}
 use mathlib.Core.Bool.{Bool, true, false}
 use mathlib.Core.List.{List, map}
-use lib.ListN.{length, getD, take, drop, length-map}
+use lib.ListN.{length, take, drop, length-map}
 use lib.Seq.{take-at}
 use lib.Dec.{ltb}
 use Rattle.cells.specs.Laws.Basics.{not-both}
@@ -11,7 +11,8 @@ use Rattle.calendar.specs.Search.{at}
 use Rattle.activity.specs.declared.Activity.{Activity}
 use Rattle.board.specs.declared.Board.{Board}
 use Rattle.scheduler.specs.declared.Entry.{Entry}
-use Rattle.scheduler.specs.Placing.{Placement, Reply, placed, chosenNone, none, refused, placeReply, rowOf, slateAfter, choosingInstant, refusalOf}
+use Rattle.scheduler.specs.Placing.{Placement, Reply, placed, chosenNone, none, refused, placeReply, slateAfter, choosingInstant, refusalOf}
+use Rattle.scheduler.specs.Rows.{rowOf, numberIn}
 use Rattle.cells.specs.Every.{Each}
 use Rattle.cells.specs.Laws.Each.{each-of-map}
 use Rattle.scheduler.specs.Alike.{Alike, NoExtra}
@@ -28,7 +29,7 @@ pub record Called (b : Board) (a : Activity) (ready : ℕ) (slate : List (List �
 
 -- no extra is on the resource of a row
 abbrev pub RowSpared : Board → Board → List ℕ → Type 0
-RowSpared b c row = NoExtra b c (getD row 0 0)
+RowSpared b c row = NoExtra b c (numberIn row)
 
 -- The first call's answer r and slate `after`, the second's q and `later`, on a board with extra bookings.
 pub record Calls (b c : Board) (r : PlaceReply) (after : List (List ℕ)) (q : PlaceReply) (later : List (List ℕ)) : Type 0 where

@@ -16,7 +16,8 @@ use Rattle.activity.specs.Check.{activityRefusal}
 use Rattle.board.specs.declared.Board.{Board}
 use Rattle.board.specs.Valid as board
 use Rattle.calendar.specs.Refusals.{refusedOr}
-use Rattle.scheduler.specs.Placing.{Placement, Reply, placed, refused, placing, placeRefusal, placeReply, rowOf, slateAfter, choosingInstant, refusalOf}
+use Rattle.scheduler.specs.Placing.{Placement, Reply, placed, refused, placing, placeRefusal, placeReply, slateAfter, choosingInstant, refusalOf}
+use Rattle.scheduler.specs.Rows.{rowOf}
 use Rattle.cells.specs.Every.{Each}
 use Rattle.scheduler.specs.Alike.{Alike, NoExtra}
 use Rattle.scheduler.specs.Laws.AlikePlacing.{isPlaced, not-placed, placing-unrefused, placing-same, placing-later}

@@ -19,7 +19,8 @@ use Rattle.scheduler.specs.Alone.{spanOf}
 use Rattle.scheduler.specs.Choosing.{Held, Choice, noChoice, chosen, choosing}
 use Rattle.scheduler.specs.declared.Entry.{Entry}
 use Rattle.scheduler.specs.Fitting.{entriesOf, spanTogether, sharesOf, suits, fitting, endOf}
-use Rattle.scheduler.specs.Placing.{Placement, Reply, placed, chosenNone, none, refused, ended, started, fitted, fitChosen, timeOnly, byRequirements, placing, rowOf, slateAfter}
+use Rattle.scheduler.specs.Placing.{Placement, Reply, placed, chosenNone, none, refused, ended, started, fitted, fitChosen, timeOnly, byRequirements, placing, slateAfter}
+use Rattle.scheduler.specs.Rows.{rowOf}
 use Rattle.scheduler.specs.Plain.{enough, heldAt, Chooses}
 use Rattle.scheduler.specs.Laws.Together.{Sound}
 use Rattle.scheduler.specs.Laws.Events.{above-length}

@@ -1,6 +1,6 @@
 -- The marked runs M1 to M12 on the definitions: one theorem over one list.
 use mathlib.Core.Path.{_≡_, refl, ap}
-use mathlib.Core.Bool.{true, false}
+use mathlib.Core.Bool.{false}
 use mathlib.Core.List.{List, [], _∷_, _++_, map}
 use Prim.Native.Nat.{ℕ, _-_}
 use lib.ListN.{replicate, length, getD}
@@ -43,6 +43,7 @@ use Rattle.board.specs.Enter.{blankResource, newResource}
 use Rattle.scheduler.specs.Alone.{canStart, allStart, lastOf, earliestOf, resourceIn, withCompanions, durationAlone, spanOf, arrival, startWith, startAlone}
 use Rattle.scheduler.specs.Choosing.{sooner, insertBy, sortInto, answer, candidates, holdFirst, behind, round, greatestStart, settle, rounds, choosing}
 use Rattle.scheduler.specs.declared.Entry.{Entry}
+use Rattle.scheduler.specs.Entries.{heldEntry, companionEntry}
 use Rattle.scheduler.specs.Fitting.{durationTogether, greatestSetup, among, joinEach, allCompanions, companionEntries, entriesOf, spanTogether}
 use Rattle.scheduler.specs.Fitting.{fitsAll, allFree, freeToEnd, startsAll, suits, lastAll, fitting, endOf}
 use Rattle.scheduler.specs.Placing.{Reply, placed, none, ended, started, fitted, fitChosen, timeOnly, byRequirements, placing, placeRefusal, placeReply}
@@ -110,7 +111,7 @@ order p q timings = record {
 }
 
 abbrev pub entry : ℕ → Entry
-entry number = record { number = number; setup = 0; units = 1; companion = false }
+entry number = heldEntry number 0 1
 
 -- the reply of a placement: choosing instant, start, end, entries
 abbrev pub placedAt : ℕ → ℕ → ℕ → List Entry → Reply
@@ -198,7 +199,7 @@ pub companion-joins :
       len = 2;
       transport = replicate 256 0;
     }) (order 100 1 (record { timing = Nothing } ∷ at two ∷ [])) 0 24
-    ≡ placedAt 0 0 100 (entry 0 ∷ record { number = 1; setup = 0; units = 1; companion = true } ∷ [])
+    ≡ placedAt 0 0 100 (entry 0 ∷ companionEntry 1 ∷ [])
 unfolding eq le mul div ofInt leastFrom spansFrom any holds meets contains calendar.cellRight everyFrom calendar.spansRight calendar.valid
     openFor fits working joint endFrom workEnd latest lastChange empty bookingsTo total latestEnd before timeline.cellRight
     timeline.cellEmpty timeline.valid overlaps onAt tally load free fitsAt freeTo startsAt lastEvent earliestFit earliestResumable
