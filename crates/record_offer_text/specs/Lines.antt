@@ -1,5 +1,5 @@
 -- What an answer of `offer` prints, as bytes (docs/RECORDS.md).
-use Prim.Native.Nat.{ℕ}
+use Prim.Native.Nat.{ℕ, _+_, _*_}
 use mathlib.Core.List.{List, [], _∷_, _++_}
 use lib.ListN.{take}
 use Rattle.record_texts.specs.Text.{decimal}
@@ -43,6 +43,16 @@ lineText (answer.Chosen t) = chosenText t
 lineText answer.None = slot.textOf (slot.line none)
 lineText answer.Committed = 99 ∷ 111 ∷ 109 ∷ 109 ∷ 105 ∷ 116 ∷ 116 ∷ 101 ∷ 100 ∷ 10 ∷ []
 lineText (answer.Refused n) = slot.textOf (slot.line (refused n))
+
+-- the most bytes of the line, of an entry, and of both with 24 entries
+abbrev pub lineMost : ℕ
+lineMost = 91
+
+abbrev pub entryMost : ℕ
+entryMost = 90
+
+abbrev pub textMost : ℕ
+textMost = lineMost + 24 * entryMost
 
 -- the line, and behind a placement's its entries
 unfoldable pub textOf : OfferAnswer → List (List ℕ) → List ℕ

@@ -16,12 +16,16 @@ ghost use lib.ListN.{length, take};
 ghost use Rattle.record_texts.specs.Text.{Put};
 ghost use Rattle.record_offer.specs.Offers.{shown as shownOf};
 ghost use Rattle.record_offer_text.specs.Lines.{entryText, entriesText, lineText, textOf, placedText, chosenText};
+ghost use Rattle.record_offer_text.specs.Lines.{lineMost, entryMost, textMost};
+
+// The most bytes that an answer prints: a line, and one for each of 24 entries.
+pub const TEXT_MOST: usize = 91 + 24 * 90;
 
 // `entry NUMBER SETUP UNITS COMPANION`.
 fn put_entry(out: &mut [u8], at: usize, row: Row) -> usize
-    requires { ⌜ at + 90 ≤ length (now out) ⌝ }
+    requires { ⌜ at + entryMost ≤ length (now out) ⌝ }
     ensures { λ r. ⌜ Put (now (out .entry)) at (entryText row) (now (out .exit)) r ⌝ }
-    ensures { λ r. ⌜ r ≤ at + 90 ⌝ }
+    ensures { λ r. ⌜ r ≤ at + entryMost ⌝ }
 {
     let a = put(out, at, b"entry");
     let b = put_value(out, a, number_in(row));
@@ -33,9 +37,9 @@ fn put_entry(out: &mut [u8], at: usize, row: Row) -> usize
 
 // The first entries of the slate.
 fn put_entries(out: &mut [u8], at: usize, slate: &[Row], count: usize) -> usize
-    requires { ⌜ (count ≤ length (now slate)) × (at + 90 * count ≤ length (now out)) ⌝ }
+    requires { ⌜ (count ≤ length (now slate)) × (at + entryMost * count ≤ length (now out)) ⌝ }
     ensures { λ r. ⌜ Put (now (out .entry)) at (entriesText (take count (now (slate .entry)))) (now (out .exit)) r ⌝ }
-    ensures { λ r. ⌜ r ≤ at + 90 * count ⌝ }
+    ensures { λ r. ⌜ r ≤ at + entryMost * count ⌝ }
 {
     let mut end = at;
     let mut i: usize = 0;
@@ -48,9 +52,9 @@ fn put_entries(out: &mut [u8], at: usize, slate: &[Row], count: usize) -> usize
 
 // `placed CHOOSING START END COUNT`.
 fn put_placed(out: &mut [u8], at: usize, p: Placed) -> usize
-    requires { ⌜ at + 91 ≤ length (now out) ⌝ }
+    requires { ⌜ at + lineMost ≤ length (now out) ⌝ }
     ensures { λ r. ⌜ Put (now (out .entry)) at (placedText p) (now (out .exit)) r ⌝ }
-    ensures { λ r. ⌜ r ≤ at + 91 ⌝ }
+    ensures { λ r. ⌜ r ≤ at + lineMost ⌝ }
 {
     let a = put(out, at, b"placed");
     let b = put_value(out, a, p.choosing);
@@ -62,9 +66,9 @@ fn put_placed(out: &mut [u8], at: usize, p: Placed) -> usize
 
 // `chosen CHOOSING none`.
 fn put_chosen(out: &mut [u8], at: usize, choosing: u64) -> usize
-    requires { ⌜ at + 91 ≤ length (now out) ⌝ }
+    requires { ⌜ at + lineMost ≤ length (now out) ⌝ }
     ensures { λ r. ⌜ Put (now (out .entry)) at (chosenText choosing) (now (out .exit)) r ⌝ }
-    ensures { λ r. ⌜ r ≤ at + 91 ⌝ }
+    ensures { λ r. ⌜ r ≤ at + lineMost ⌝ }
 {
     let a = put(out, at, b"chosen");
     let b = put_value(out, a, choosing);
@@ -73,9 +77,9 @@ fn put_chosen(out: &mut [u8], at: usize, choosing: u64) -> usize
 
 // The line of an answer.
 fn put_line(out: &mut [u8], at: usize, answer: OfferAnswer) -> usize
-    requires { ⌜ at + 91 ≤ length (now out) ⌝ }
+    requires { ⌜ at + lineMost ≤ length (now out) ⌝ }
     ensures { λ r. ⌜ Put (now (out .entry)) at (lineText answer) (now (out .exit)) r ⌝ }
-    ensures { λ r. ⌜ r ≤ at + 91 ⌝ }
+    ensures { λ r. ⌜ r ≤ at + lineMost ⌝ }
 {
     match answer {
         OfferAnswer::Nothing => at,
@@ -101,11 +105,11 @@ fn shown(answer: OfferAnswer) -> usize
     }
 }
 
-// Puts all that an answer prints, at most 2,251 bytes, into out from `at` on, and answers where it ends.
+// Puts all that an answer prints into out from `at` on, and answers where it ends.
 pub fn text(answer: OfferAnswer, slate: &[Row], out: &mut [u8], at: usize) -> usize
-    requires { ⌜ (shownOf answer ≤ length (now slate)) × (shownOf answer ≤ 24) × (at + 2251 ≤ length (now out)) ⌝ }
+    requires { ⌜ (shownOf answer ≤ length (now slate)) × (shownOf answer ≤ 24) × (at + textMost ≤ length (now out)) ⌝ }
     ensures { λ r. ⌜ Put (now (out .entry)) at (textOf answer (now (slate .entry))) (now (out .exit)) r ⌝ }
-    ensures { λ r. ⌜ r ≤ at + 2251 ⌝ }
+    ensures { λ r. ⌜ r ≤ at + textMost ⌝ }
 {
     let end = put_line(out, at, answer);
     put_entries(out, end, slate, shown(answer))
