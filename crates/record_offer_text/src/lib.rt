@@ -27,11 +27,15 @@ fn put_entry(out: &mut [u8], at: usize, row: Row) -> usize
     ensures { λ r. ⌜ Put (now (out .entry)) at (entryText row) (now (out .exit)) r ⌝ }
     ensures { λ r. ⌜ r ≤ at + entryMost ⌝ }
 {
+    let number = number_in(row);
+    let setup = setup_in(row);
+    let units = units_in(row);
+    let companion = companion_in(row);
     let a = put(out, at, b"entry");
-    let b = put_value(out, a, number_in(row));
-    let c = put_value(out, b, setup_in(row));
-    let d = put_value(out, c, units_in(row));
-    let e = put_value(out, d, companion_in(row));
+    let b = put_value(out, a, number);
+    let c = put_value(out, b, setup);
+    let d = put_value(out, c, units);
+    let e = put_value(out, d, companion);
     put(out, e, b"\n")
 }
 
