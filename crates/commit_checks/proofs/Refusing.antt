@@ -11,6 +11,7 @@ use borrow.Author.Tests.{lt-leb, le-ltb, lt-ltb, le-leb, ltb-false, not-false, n
 use Rattle.cells.specs.Laws.Basics.{unrefused, same-or-not}
 use Rattle.cells.specs.Every.{every, Each}
 use Rattle.board.specs.declared.Board.{Board}
+use Rattle.board.specs.declared.Entered.{Entered}
 use Rattle.board.specs.Valid as board
 use Rattle.board.specs.Laws.Replying.{refused-by, taken-by}
 use Rattle.scheduler.specs.Committing.{Line, linesOf, linesRefusal, commitRefusal, bookAll, commitReply, Bookable}
@@ -62,72 +63,91 @@ module _ (b : Board) (ls : List Line) (start end category : ℕ) where
               unfolding linesRefusal
               refused-none r = rw (on, le-ltb 15 category c, le-ltb (2 ^ 42) start s, le-ltb (2 ^ 42) end e, lt-leb end start o, u, r) refl
 
--- what a commitment that is not refused has: a board that keeps the rules, rows enough, and lines that can be booked
-pub record Fine (b : Board) (slate : List (List ℕ)) (count start end category : ℕ) : Type 0 where
-  pub valid : board.valid b ≡ true
-  pub enough : count ≤ length slate
-  pub bookable : 0 < count → Bookable start end category
-  pub right : Each (BookableLine b) (linesOf count slate)
-  pub room : Room b (linesOf count slate)
+-- a commitment: the first `count` entries of a slate on a board, from when to when, and the category
+pub record Commitment : Type 0 where
+  pub board : Board
+  pub slate : List (List ℕ)
+  pub count : ℕ
+  pub start : ℕ
+  pub end : ℕ
+  pub category : ℕ
 
-module _ (b : Board) (slate : List (List ℕ)) (count start end category : ℕ) where
-  pub refusal-rules : board.valid b ≡ false → 15 ≡ commitRefusal b slate count start end category
+abbrev pub linesIn : Commitment → List Line
+linesIn k = linesOf (k .count) (k .slate)
+
+abbrev pub commitmentRefusal : Commitment → ℕ
+commitmentRefusal k = commitRefusal (k .board) (k .slate) (k .count) (k .start) (k .end) (k .category)
+
+-- the board with all of it booked
+abbrev pub wholeOf : Commitment → Board
+wholeOf k = bookAll (k .start) (k .end) (k .category) (linesIn k) (k .board)
+
+abbrev pub commitmentReply : Commitment → Entered
+commitmentReply k = commitReply (k .board) (k .slate) (k .count) (k .start) (k .end) (k .category)
+
+-- what a commitment that is not refused has: a board that keeps the rules, rows enough, and lines that can be booked
+pub record Fine (k : Commitment) : Type 0 where
+  pub valid : board.valid (k .board) ≡ true
+  pub enough : k .count ≤ length (k .slate)
+  pub bookable : 0 < k .count → Bookable (k .start) (k .end) (k .category)
+  pub right : Each (BookableLine (k .board)) (linesIn k)
+  pub room : Room (k .board) (linesIn k)
+
+module _ (k : Commitment) where
+  pub refusal-rules : board.valid (k .board) ≡ false → 15 ≡ commitmentRefusal k
   unfolding commitRefusal
   refusal-rules v = rw v refl
 
-  module _ (v : board.valid b ≡ true) where
-    pub refusal-none : count ≡ 0 → 0 ≡ commitRefusal b slate count start end category
+  module _ (v : board.valid (k .board) ≡ true) where
+    pub refusal-none : k .count ≡ 0 → 0 ≡ commitmentRefusal k
     unfolding commitRefusal
     refusal-none z = rw (v, z) refl
 
-    module _ (some : eqb count 0 ≡ false) where
-      pub refusal-count : length slate < count → 7 ≡ commitRefusal b slate count start end category
+    module _ (some : eqb (k .count) 0 ≡ false) where
+      pub refusal-count : length (k .slate) < k .count → 7 ≡ commitmentRefusal k
       unfolding commitRefusal
-      refusal-count l = rw (v, some, lt-ltb (length slate) count l) refl
+      refusal-count l = rw (v, some, lt-ltb (length (k .slate)) (k .count) l) refl
 
-      pub refusal-lines : count ≤ length slate → linesRefusal b (linesOf count slate) start end category ≡ commitRefusal b slate count start end category
+      pub refusal-lines : k .count ≤ length (k .slate) → linesRefusal (k .board) (linesIn k) (k .start) (k .end) (k .category) ≡ commitmentRefusal k
       unfolding commitRefusal
-      refusal-lines l = rw (v, some, le-ltb (length slate) count l) refl
+      refusal-lines l = rw (v, some, le-ltb (length (k .slate)) (k .count) l) refl
 
-  fine-none : board.valid b ≡ true → count ≡ 0 → Fine b slate count start end category
+  fine-none : board.valid (k .board) ≡ true → k .count ≡ 0 → Fine k
   unfolding every linesOf
   fine-none v z = record {
     valid = v;
     enough = omega (arith, z);
     bookable = λ l. absurd (omega (arith, z));
-    right = rw z (passed b [] refl refl);
-    room = rw z (room-passed b [] v refl);
+    right = rw z (passed (k .board) [] refl refl);
+    room = rw z (room-passed (k .board) [] v refl);
   }
 
-  fine-some : board.valid b ≡ true → eqb count 0 ≡ false → cond (ltb (length slate) count) 7 (linesRefusal b (linesOf count slate) start end category) ≡ 0 → Fine b slate count start end category
-  fine-some v some e =
-      let x = unrefused (ltb (length slate) count) 6 _ e in
-      let w = all-fine b (linesOf count slate) start end category v (x .1) in
+  fine-some : board.valid (k .board) ≡ true → cond (ltb (length (k .slate)) (k .count)) 7 (linesRefusal (k .board) (linesIn k) (k .start) (k .end) (k .category)) ≡ 0 → Fine k
+  fine-some v e =
+      let x = unrefused (ltb (length (k .slate)) (k .count)) 6 _ e in
+      let w = all-fine (k .board) (linesIn k) (k .start) (k .end) (k .category) v (x .1) in
       record {
         valid = v;
-        enough = ltb-false (length slate) count (x .0);
+        enough = ltb-false (length (k .slate)) (k .count) (x .0);
         bookable = λ l. w .0;
         right = w .1;
         room = w .2;
       }
 
-  pub fine : (n : ℕ) → n ≡ commitRefusal b slate count start end category → n ≡ 0 → Fine b slate count start end category
+  pub fine : (n : ℕ) → n ≡ commitmentRefusal k → n ≡ 0 → Fine k
   unfolding commitRefusal
   fine n q z =
-      let x = unrefused (not (board.valid b)) 14 _ (sym q ∙ z) in
-      let v = not-false (board.valid b) (x .0) in
+      let x = unrefused (not (board.valid (k .board))) 14 _ (sym q ∙ z) in
+      let v = not-false (board.valid (k .board)) (x .0) in
       ⊎-elim
-      (λ (h : 0 ≡ count). fine-none v (sym h))
-      (λ (h : count ≡ 0 → ⊥).
-      let some = ne-eqb count 0 h in
-      fine-some v some (rw some at (x .1)))
-      (same-or-not 0 count)
+      (λ (h : 0 ≡ k .count). fine-none v (sym h))
+      (λ (h : k .count ≡ 0 → ⊥). fine-some v (rw (ne-eqb (k .count) 0 h) at (x .1)))
+      (same-or-not 0 (k .count))
 
-  pub reply-refused : (n : ℕ) → n ≡ commitRefusal b slate count start end category → (n ≡ 0 → ⊥) → record { refusal = n; board = b } ≡ commitReply b slate count start end category
+  pub reply-refused : (n : ℕ) → n ≡ commitmentRefusal k → (n ≡ 0 → ⊥) → record { refusal = n; board = k .board } ≡ commitmentReply k
   unfolding commitReply
-  reply-refused n e h = refused-by n (commitRefusal b slate count start end category) b (bookAll start end category (linesOf count slate) b) e h
+  reply-refused n e h = refused-by n (commitmentRefusal k) (k .board) (wholeOf k) e h
 
-  pub reply-taken : (after : Board) (n : ℕ) → n ≡ commitRefusal b slate count start end category → n ≡ 0 → after ≡ bookAll start end category (linesOf count slate) b
-      → record { refusal = 0; board = after } ≡ commitReply b slate count start end category
+  pub reply-taken : (after : Board) (n : ℕ) → n ≡ commitmentRefusal k → n ≡ 0 → after ≡ wholeOf k → record { refusal = 0; board = after } ≡ commitmentReply k
   unfolding commitReply
-  reply-taken after n e h z = rw z (taken-by (commitRefusal b slate count start end category) b (bookAll start end category (linesOf count slate) b) (sym e ∙ h))
+  reply-taken after n e h z = rw z (taken-by (commitmentRefusal k) (k .board) (wholeOf k) (sym e ∙ h))

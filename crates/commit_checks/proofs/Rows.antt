@@ -18,6 +18,7 @@ use Rattle.board.specs.Resources.{onBoard}
 use Rattle.board.specs.Valid.{valid}
 use Rattle.board.specs.Laws.Facts.{rules}
 use Rattle.scheduler.specs.Alone.{diaryOf}
+use Rattle.scheduler.specs.Rows.{numberIn, unitsIn}
 use Rattle.scheduler.specs.Committing.{Line, lineOf, linesOf, entriesOn}
 use Rattle.scheduler.specs.Laws.Ruled.{diary-at}
 use Rattle.board.specs.Laws.Knowing.{place-of, number-place}
@@ -29,51 +30,51 @@ lines-rows : (n : ℕ) (slate : List (List ℕ)) → linesOf n slate ≡ map lin
 unfolding linesOf
 lines-rows n slate = refl
 
--- a row names a number that has a place, and the diary there holds at most 64 bookings
-abbrev pub RowPlace : List ℕ → List ℕ → List ℕ → Type 0
-RowPlace places lens row = (getD row 0 0 < 16) × (getD places (getD row 0 0) 0 < 16) × (getD lens (getD places (getD row 0 0) 0) 0 ≤ 64)
+-- a number has a place, and the diary there holds at most 64 bookings
+abbrev pub HasPlace : List ℕ → List ℕ → ℕ → Type 0
+HasPlace places lens number = (number < 16) × (getD places number 0 < 16) × (getD lens (getD places number 0) 0 ≤ 64)
 
 -- one row
 module _ (places row : List ℕ) where
-  pub number-high : 16 ≤ getD row 0 0 → numbered places row ≡ false
-  unfolding numbered lineOf
-  number-high l = rw (le-ltb (getD row 0 0) 16 l) refl
+  pub number-high : 16 ≤ numberIn row → numbered places row ≡ false
+  unfolding numbered
+  number-high l = rw (le-ltb (numberIn row) 16 l) refl
 
-  pub number-off : 16 ≤ getD places (getD row 0 0) 0 → numbered places row ≡ false
-  unfolding numbered lineOf
-  number-off l = rw (le-ltb (getD places (getD row 0 0) 0) 16 l) (and-false (ltb (getD row 0 0) 16))
+  pub number-off : 16 ≤ getD places (numberIn row) 0 → numbered places row ≡ false
+  unfolding numbered
+  number-off l = rw (le-ltb (getD places (numberIn row) 0) 16 l) (and-false (ltb (numberIn row) 16))
 
-  pub number-on : getD row 0 0 < 16 → getD places (getD row 0 0) 0 < 16 → numbered places row ≡ true
-  unfolding numbered lineOf
-  number-on l m = rw (lt-ltb (getD row 0 0) 16 l, lt-ltb (getD places (getD row 0 0) 0) 16 m) refl
+  pub number-on : numberIn row < 16 → getD places (numberIn row) 0 < 16 → numbered places row ≡ true
+  unfolding numbered
+  number-on l m = rw (lt-ltb (numberIn row) 16 l, lt-ltb (getD places (numberIn row) 0) 16 m) refl
 
-  pub number-is : numbered places row ≡ true → (getD row 0 0 < 16) × (getD places (getD row 0 0) 0 < 16)
-  unfolding numbered lineOf
+  pub number-is : numbered places row ≡ true → (numberIn row < 16) × (getD places (numberIn row) 0 < 16)
+  unfolding numbered
   number-is e =
-      let w = and-split (ltb (getD row 0 0) 16) (ltb (getD places (getD row 0 0) 0) 16) e in
-      (ltb-true (getD row 0 0) 16 (w .0), ltb-true (getD places (getD row 0 0) 0) 16 (w .1))
+      let w = and-split (ltb (numberIn row) 16) (ltb (getD places (numberIn row) 0) 16) e in
+      (ltb-true (numberIn row) 16 (w .0), ltb-true (getD places (numberIn row) 0) 16 (w .1))
 
 module _ (row : List ℕ) where
-  pub units-none : getD row 2 0 < 1 → metered row ≡ false
-  unfolding metered lineOf
-  units-none l = rw (lt-leb 1 (getD row 2 0) l) refl
+  pub units-none : unitsIn row < 1 → metered row ≡ false
+  unfolding metered
+  units-none l = rw (lt-leb 1 (unitsIn row) l) refl
 
-  pub units-many : 10000 < getD row 2 0 → metered row ≡ false
-  unfolding metered lineOf
-  units-many l = rw (lt-leb (getD row 2 0) 10000 l) (and-false (leb 1 (getD row 2 0)))
+  pub units-many : 10000 < unitsIn row → metered row ≡ false
+  unfolding metered
+  units-many l = rw (lt-leb (unitsIn row) 10000 l) (and-false (leb 1 (unitsIn row)))
 
-  pub units-fine : 1 ≤ getD row 2 0 → getD row 2 0 ≤ 10000 → metered row ≡ true
-  unfolding metered lineOf
-  units-fine l m = rw (le-leb 1 (getD row 2 0) l, le-leb (getD row 2 0) 10000 m) refl
+  pub units-fine : 1 ≤ unitsIn row → unitsIn row ≤ 10000 → metered row ≡ true
+  unfolding metered
+  units-fine l m = rw (le-leb 1 (unitsIn row) l, le-leb (unitsIn row) 10000 m) refl
 
 module _ (places lens tally row : List ℕ) where
-  pub room-short : 64 < getD lens (getD places (getD row 0 0) 0) 0 + getD tally (getD row 0 0) 0 → roomy places lens tally row ≡ false
-  unfolding roomy lineOf
-  room-short l = lt-leb (getD lens (getD places (getD row 0 0) 0) 0 + getD tally (getD row 0 0) 0) 64 l
+  pub room-short : 64 < getD lens (getD places (numberIn row) 0) 0 + getD tally (numberIn row) 0 → roomy places lens tally row ≡ false
+  unfolding roomy
+  room-short l = lt-leb (getD lens (getD places (numberIn row) 0) 0 + getD tally (numberIn row) 0) 64 l
 
-  pub room-enough : getD lens (getD places (getD row 0 0) 0) 0 + getD tally (getD row 0 0) 0 ≤ 64 → roomy places lens tally row ≡ true
-  unfolding roomy lineOf
-  room-enough l = le-leb (getD lens (getD places (getD row 0 0) 0) 0 + getD tally (getD row 0 0) 0) 64 l
+  pub room-enough : getD lens (getD places (numberIn row) 0) 0 + getD tally (numberIn row) 0 ≤ 64 → roomy places lens tally row ≡ true
+  unfolding roomy
+  room-enough l = le-leb (getD lens (getD places (numberIn row) 0) 0 + getD tally (numberIn row) 0) 64 l
 
 -- how many name each number: one row more
 entries-more : (k : ℕ) (ls : List Line) (l : Line) → entriesOn k (ls ++ (l ∷ [])) ≡ entriesOn k ls + cond (eqb (l .number) k) 1 0
@@ -98,8 +99,8 @@ pub counted-none : (slate : List (List ℕ)) → Counted slate 0 (replicate 16 0
 unfolding entriesOn linesOf
 counted-none slate k l = getD-replicate {A = ℕ} 16 k 0 0 l
 
-pub counted-next : (slate : List (List ℕ)) (i : ℕ) (tally : List ℕ) → length tally ≡ 16 → i < length slate → getD (getD slate i []) 0 0 < 16 → Counted slate i tally
-    → Counted slate (i + 1) (set tally (getD (getD slate i []) 0 0) (getD tally (getD (getD slate i []) 0 0) 0 + 1))
+pub counted-next : (slate : List (List ℕ)) (i : ℕ) (tally : List ℕ) → length tally ≡ 16 → i < length slate → numberIn (getD slate i []) < 16 → Counted slate i tally
+    → Counted slate (i + 1) (set tally (numberIn (getD slate i [])) (getD tally (numberIn (getD slate i [])) 0 + 1))
 unfolding lineOf
 counted-next slate i tally long l m h k n =
     sym (ap (entriesOn k) (lines-next slate i l) ∙ entries-more k (linesOf i slate) (lineOf (getD slate i []))
@@ -111,7 +112,7 @@ counted-next slate i tally long l m h k n =
     (same-or-not number k))
   where
     number : ℕ
-    number = getD (getD slate i []) 0 0
+    number = numberIn (getD slate i [])
 
     plain : getD tally k 0 + 0 ≡ getD tally k 0
     plain = omega arith
@@ -122,9 +123,9 @@ module _ (b : Board) (v : valid b ≡ true) (places : List ℕ) (known : Known b
   numbered-is : (row : List ℕ) → numbered places row ≡ onBoard b (lineOf row .number)
   unfolding lineOf isAt
   numbered-is row =
-      both-ways (numbered places row) (onBoard b (getD row 0 0))
-      (λ e. let w = number-is places row e in ap isAt (place-of b v places known (getD row 0 0) (w .0) (w .1)))
-      (λ o. let w = number-place b v places known (getD row 0 0) o in number-on places row (w .0) (omega (arith, w .2, rules b v .few)))
+      both-ways (numbered places row) (onBoard b (numberIn row))
+      (λ e. let w = number-is places row e in ap isAt (place-of b v places known (numberIn row) (w .0) (w .1)))
+      (λ o. let w = number-place b v places known (numberIn row) o in number-on places row (w .0) (omega (arith, w .2, rules b v .few)))
 
   pub numbers-lines : (n : ℕ) (slate : List (List ℕ)) → every (numbered places) (take n slate) ≡ every (λ l. onBoard b (l .number)) (linesOf n slate)
   numbers-lines n slate =
@@ -134,10 +135,10 @@ module _ (b : Board) (v : valid b ≡ true) (places : List ℕ) (known : Known b
 
   module _ (lens tally : List ℕ) (n : ℕ) (slate : List (List ℕ)) (long : Lengths b lens) (counted : Counted slate n tally) where
     roomy-is : (row : List ℕ) → numbered places row ≡ true → roomy places lens tally row ≡ leb (diaryOf b (lineOf row .number) .len + entriesOn (lineOf row .number) (linesOf n slate)) 64
-    unfolding roomy
+    unfolding roomy lineOf
     roomy-is row e =
-        let w = number-place b v places known (lineOf row .number) (sym (numbered-is row) ∙ e) in
-        rw (counted (lineOf row .number) (w .0), long (getD places (lineOf row .number) 0) (w .2), diary-at b (lineOf row .number) (getD places (lineOf row .number) 0) (w .1)) refl
+        let w = number-place b v places known (numberIn row) (sym (numbered-is row) ∙ e) in
+        rw (counted (numberIn row) (w .0), long (getD places (numberIn row) 0) (w .2), diary-at b (numberIn row) (getD places (numberIn row) 0) (w .1)) refl
 
     pub room-lines : every (numbered places) (take n slate) ≡ true
         → every (roomy places lens tally) (take n slate) ≡ every (λ l. leb (diaryOf b (l .number) .len + entriesOn (l .number) (linesOf n slate)) 64) (linesOf n slate)
@@ -147,7 +148,7 @@ module _ (b : Board) (v : valid b ≡ true) (places : List ℕ) (known : Known b
         ∙ sym (ap (every (λ (l : Line). leb (diaryOf b (l .number) .len + entriesOn (l .number) (linesOf n slate)) 64)) (lines-rows n slate))
 
 pub units-lines : (n : ℕ) (slate : List (List ℕ)) → every metered (take n slate) ≡ every (λ l. leb 1 (l .units) && leb (l .units) 10000) (linesOf n slate)
-unfolding metered
+unfolding metered lineOf
 units-lines n slate =
     sym (every-map (λ l. leb 1 (l .units) && leb (l .units) 10000) lineOf (take n slate))
     ∙ sym (ap (every (λ (l : Line). leb 1 (l .units) && leb (l .units) 10000)) (lines-rows n slate))

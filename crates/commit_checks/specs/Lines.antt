@@ -9,19 +9,20 @@ use Rattle.calendar.specs.Limits.{mostUnits, mostBookings}
 use Rattle.board.specs.declared.Board.{Board}
 use Rattle.board.specs.Valid.{valid}
 use Rattle.board.specs.Places.{Known, Lengths}
-use Rattle.scheduler.specs.Committing.{Line, lineOf, linesOf, entriesOn, linesRefusal, commitRefusal}
+use Rattle.scheduler.specs.Rows.{numberIn, unitsIn}
+use Rattle.scheduler.specs.Committing.{Line, linesOf, entriesOn, linesRefusal, commitRefusal}
 
 -- the row names a number that has a place
 unfoldable pub numbered : List ℕ → List ℕ → Bool
-numbered places row = ltb (lineOf row .number) 16 && ltb (getD places (lineOf row .number) 0) 16
+numbered places row = ltb (numberIn row) 16 && ltb (getD places (numberIn row) 0) 16
 
 -- its units are in range
 unfoldable pub metered : List ℕ → Bool
-metered row = leb 1 (lineOf row .units) && leb (lineOf row .units) mostUnits
+metered row = leb 1 (unitsIn row) && leb (unitsIn row) mostUnits
 
 -- its diary has places for all entries on it
 unfoldable pub roomy : List ℕ → List ℕ → List ℕ → List ℕ → Bool
-roomy places lens tally row = leb (getD lens (getD places (lineOf row .number) 0) 0 + getD tally (lineOf row .number) 0) mostBookings
+roomy places lens tally row = leb (getD lens (getD places (numberIn row) 0) 0 + getD tally (numberIn row) 0) mostBookings
 
 -- how many of the first n rows name each number
 abbrev pub Counted : List (List ℕ) → ℕ → List ℕ → Type 0

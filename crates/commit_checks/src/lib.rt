@@ -1,5 +1,8 @@
 // The checks of a commitment's rows (01, 'Committing': 5, 1, 2, 3, 4), each over all of them before the next.
 use calendar::limits::LAST_INSTANT;
+use scheduler::rows::Row;
+use scheduler::rows::number_in;
+use scheduler::rows::units_in;
 ghost use mathlib.Core.Path.{_≡_};
 ghost use mathlib.Core.Bool.{true};
 ghost use mathlib.Core.List.{[]};
@@ -7,18 +10,19 @@ ghost use Prim.Native.Nat.{ℕ, _≤_, _<_};
 ghost use lib.ListN.{length, getD, take};
 ghost use Rattle.cells.specs.Every.{every};
 ghost use Rattle.board.specs.Places.{FewBookings};
+ghost use Rattle.scheduler.specs.Rows.{numberIn};
 ghost use Rattle.scheduler.specs.Committing.{linesOf};
 ghost use Rattle.commit_checks.specs.Lines.{numbered, metered, roomy, Counted, RowsRefusal};
 
 // Each of the first `count` rows names a resource on the board.
-fn numbers_right(slate: &[[u64; 4]], count: usize, places: [usize; 16]) -> bool
+fn numbers_right(slate: &[Row], count: usize, places: [usize; 16]) -> bool
     requires { ⌜ count ≤ length (now slate) ⌝ }
     ensures { λ r. ⌜ r ≡ every (numbered places) (take count (now (slate .entry))) ⌝ }
 {
     let mut i: usize = 0;
     while i < count {
         let row = slate[i];
-        let number = row[0];
+        let number = number_in(row);
         if number >= 16 {
             return false;
         }
@@ -31,14 +35,14 @@ fn numbers_right(slate: &[[u64; 4]], count: usize, places: [usize; 16]) -> bool
 }
 
 // Each of them wants 1 to 10,000 units.
-fn units_right(slate: &[[u64; 4]], count: usize) -> bool
+fn units_right(slate: &[Row], count: usize) -> bool
     requires { ⌜ count ≤ length (now slate) ⌝ }
     ensures { λ r. ⌜ r ≡ every metered (take count (now (slate .entry))) ⌝ }
 {
     let mut i: usize = 0;
     while i < count {
         let row = slate[i];
-        let units = row[2];
+        let units = units_in(row);
         if units < 1 {
             return false;
         }
@@ -51,15 +55,15 @@ fn units_right(slate: &[[u64; 4]], count: usize) -> bool
 }
 
 // How many of the first `count` rows name each number.
-fn tally_of(slate: &[[u64; 4]], count: usize) -> [u64; 16]
-    requires { ⌜ (count ≤ length (now slate)) × ((k : ℕ) → k < count → getD (getD (now slate) k []) 0 0 < 16) ⌝ }
+fn tally_of(slate: &[Row], count: usize) -> [u64; 16]
+    requires { ⌜ (count ≤ length (now slate)) × ((k : ℕ) → k < count → numberIn (getD (now slate) k []) < 16) ⌝ }
     ensures { λ r. ⌜ Counted (now (slate .entry)) count r ⌝ }
 {
     let mut tally: [u64; 16] = [0; 16];
     let mut i: usize = 0;
     while i < count {
         let row = slate[i];
-        let number = row[0] as usize;
+        let number = number_in(row) as usize;
         tally[number] += 1;
         i += 1;
     }
@@ -68,7 +72,7 @@ fn tally_of(slate: &[[u64; 4]], count: usize) -> [u64; 16]
 
 // Each diary named has places for all its entries.
 fn room_right(
-    slate: &[[u64; 4]],
+    slate: &[Row],
     count: usize,
     places: [usize; 16],
     lens: [u64; 16],
@@ -81,7 +85,7 @@ fn room_right(
     let mut i: usize = 0;
     while i < count {
         let row = slate[i];
-        let number = row[0] as usize;
+        let number = number_in(row) as usize;
         let place = places[number];
         if tally[number] > 64 - lens[place] {
             return false;
@@ -95,7 +99,7 @@ fn room_right(
 pub fn lines_refusal(
     lens: [u64; 16],
     places: [usize; 16],
-    slate: &[[u64; 4]],
+    slate: &[Row],
     count: usize,
     start: u64,
     end: u64,

@@ -1,6 +1,6 @@
 -- Booking the lines of a slate: what holds of the board and of the lines that are left, one line more.
 use mathlib.Core.Path.{_≡_, refl, sym, ap, _∙_, subst}
-use mathlib.Core.Bool.{true, false, not, cond}
+use mathlib.Core.Bool.{Bool, true, false, cond}
 use mathlib.Core.List.{List, [], _∷_}
 use Prim.Native.Nat.{ℕ, suc, _+_, _-_, _^_, _≤_, _<_}
 use native.Mathlib.Omega.{arith}
@@ -23,12 +23,14 @@ use Rattle.board.specs.Enter.{withResource, changed}
 use Rattle.board.specs.Laws.Facts.{rules}
 use Rattle.board.specs.Theorems.Meaning.{resource-of}
 use Rattle.scheduler.specs.Alone.{diaryOf}
-use Rattle.scheduler.specs.Committing.{Line, lineOf, linesOf, entriesOn, lastAfter, booked, bookAll, Bookable}
+use Rattle.scheduler.specs.Rows.{numberIn, unitsIn, isCompanion}
+use Rattle.scheduler.specs.Committing.{Line, lineWith, lineOf, linesOf, entriesOn, lastAfter, booked, bookAll, Bookable}
 use Rattle.scheduler.specs.Laws.Committed.{BookableLine, Room, step-long, lookup-after, after-keeps, right-after, room-after}
 use Rattle.cells.specs.Every.{Each}
 use Rattle.cells.specs.Laws.Each.{each-weaken, each-first, each-rest}
 use Rattle.scheduler.specs.Laws.Ruled.{diary-at}
 use Rattle.board.specs.Laws.Knowing.{number-place}
+use Rattle.commit_checks.proofs.Refusing.{Commitment, wholeOf, Fine}
 
 -- a booking that is not refused
 pub book-taken : (t : ResourceTimeline) (start end category u : ℕ) → timeline.valid t ≡ true → t .len < 64 → Bookable start end category → 1 ≤ u → u ≤ 10000
@@ -71,28 +73,30 @@ module _ (r : Resource) (t : ResourceTimeline) (start end category : ℕ) (l : L
   booked-plain p = rw (e, p) refl
 
 -- the lines that are left
-lines-left : (slate : List (List ℕ)) (i count : ℕ) → i < count → count ≤ length slate
-    → linesOf (count - i) (drop i slate) ≡ lineOf (getD slate i []) ∷ linesOf (count - (i + 1)) (drop (i + 1) slate)
-unfolding linesOf
-lines-left slate i count l m =
-    let z : count - i ≡ suc (count - (i + 1)) = omega arith in
-    let y : i + 1 ≡ suc i = omega arith in
-    rw (z, drop-cons slate i [] (omega arith), y) refl
+abbrev pub linesFrom : Commitment → ℕ → List Line
+linesFrom k i = linesOf (k .count - i) (drop i (k .slate))
 
-pub lines-none : (slate : List (List ℕ)) (i count : ℕ) → count ≤ i → linesOf (count - i) (drop i slate) ≡ []
+lines-left : (k : Commitment) (i : ℕ) → i < k .count → k .count ≤ length (k .slate) → linesFrom k i ≡ lineOf (getD (k .slate) i []) ∷ linesFrom k (i + 1)
 unfolding linesOf
-lines-none slate i count l =
-    let z : count - i ≡ 0 = omega arith in
+lines-left k i l m =
+    let z : k .count - i ≡ suc (k .count - (i + 1)) = omega arith in
+    let y : i + 1 ≡ suc i = omega arith in
+    rw (z, drop-cons (k .slate) i [] (omega arith), y) refl
+
+lines-none : (k : Commitment) (i : ℕ) → k .count ≤ i → linesFrom k i ≡ []
+unfolding linesOf
+lines-none k i l =
+    let z : k .count - i ≡ 0 = omega arith in
     rw z refl
 
 -- booking the lines left on this board makes the whole
-pub record Ahead (start end category : ℕ) (places : List ℕ) (whole b : Board) (ls : List Line) : Type 0 where
+pub record Ahead (k : Commitment) (places : List ℕ) (b : Board) (ls : List Line) : Type 0 where
   pub long : length (b .resources) ≡ 16
   pub valid : board.valid b ≡ true
   pub known : Known b places
   pub right : Each (BookableLine b) ls
   pub room : Room b ls
-  pub same : bookAll start end category ls b ≡ whole
+  pub same : bookAll (k .start) (k .end) (k .category) ls b ≡ wholeOf k
 
 -- the diary at a number's place takes a booking of these units
 pub record Here (b : Board) (number place units : ℕ) : Type 0 where
@@ -104,15 +108,11 @@ pub record Here (b : Board) (number place units : ℕ) : Type 0 where
   pub some : 1 ≤ units
   pub few : units ≤ 10000
 
--- the same of a row of the slate
-abbrev pub RowHere : Board → List ℕ → List ℕ → Type 0
-RowHere b places row = Here b (getD row 0 0) (getD places (getD row 0 0) 0) (getD row 2 0)
-
-pub ahead-none : (start end category : ℕ) (places : List ℕ) (whole b : Board) (ls : List Line) → ls ≡ [] → Ahead start end category places whole b ls → b ≡ whole
+ahead-none : (k : Commitment) (places : List ℕ) (b : Board) (ls : List Line) → ls ≡ [] → Ahead k places b ls → b ≡ wholeOf k
 unfolding bookAll
-ahead-none start end category places whole b ls e a = sym (ap (λ (ks : List Line). bookAll start end category ks b) e) ∙ a .same
+ahead-none k places b ls e a = sym (ap (λ (ms : List Line). bookAll (k .start) (k .end) (k .category) ms b) e) ∙ a .same
 
-module _ (start end category : ℕ) (places : List ℕ) (whole b : Board) (l : Line) (ls : List Line) (a : Ahead start end category places whole b (l ∷ ls)) where
+module _ (k : Commitment) (places : List ℕ) (b : Board) (l : Line) (ls : List Line) (a : Ahead k places b (l ∷ ls)) where
   abbrev place : ℕ
   place = getD places (l .number) 0
 
@@ -141,45 +141,68 @@ module _ (start end category : ℕ) (places : List ℕ) (whole b : Board) (l : L
       }
 
   abbrev after : Board
-  after = changed b (lookup b (l .number)) (booked start end category l)
+  after = changed b (lookup b (l .number)) (booked (k .start) (k .end) (k .category) l)
 
-  module _ (w : Bookable start end category) where
-    go-on : Ahead start end category places whole after ls
+  module _ (w : Bookable (k .start) (k .end) (k .category)) where
+    go-on : Ahead k places after ls
     unfolding bookAll
     go-on = record {
-      long = step-long start end category b l (lookup b (l .number)) ∙ a .long;
-      valid = after-keeps start end category w b (a .long) (a .valid) l mine has-room;
-      known = λ n m. a .known n m ∙ sym (ap placeOf (lookup-after start end category w b (a .long) (a .valid) l mine n));
-      right = each-weaken (BookableLine b) (BookableLine after) ls (right-after start end category w b (a .long) (a .valid) l mine) (each-rest (BookableLine b) l ls (a .right));
-      room = room-after start end category w b (a .long) (a .valid) l mine ls (a .room);
+      long = step-long (k .start) (k .end) (k .category) b l (lookup b (l .number)) ∙ a .long;
+      valid = after-keeps (k .start) (k .end) (k .category) w b (a .long) (a .valid) l mine has-room;
+      known = λ n m. a .known n m ∙ sym (ap placeOf (lookup-after (k .start) (k .end) (k .category) w b (a .long) (a .valid) l mine n));
+      right = each-weaken (BookableLine b) (BookableLine after) ls (right-after (k .start) (k .end) (k .category) w b (a .long) (a .valid) l mine) (each-rest (BookableLine b) l ls (a .right));
+      room = room-after (k .start) (k .end) (k .category) w b (a .long) (a .valid) l mine ls (a .room);
       same = a .same;
     }
 
     -- the line is booked at its place
-    ahead-next : (x : Resource) → x ≡ booked start end category l (resourceAt b place) → Ahead start end category places whole (withResource b place x) ls
+    ahead-next : (x : Resource) → x ≡ booked (k .start) (k .end) (k .category) l (resourceAt b place) → Ahead k places (withResource b place x) ls
     unfolding changed
     ahead-next x e =
         let z : after ≡ withResource b place x = rw (ahead-here .found, e) refl in
-        subst (λ (n : Board). Ahead start end category places whole n ls) z go-on
+        subst (λ (n : Board). Ahead k places n ls) z go-on
 
--- the rows left, from row i of the slate
-module _ (start end category : ℕ) (places : List ℕ) (whole b : Board) (slate : List (List ℕ)) (i count : ℕ) (l : i < count) (m : count ≤ length slate)
-    (a : Ahead start end category places whole b (linesOf (count - i) (drop i slate))) where
+-- what holds before row i of the slate is booked on this board
+pub record Left (k : Commitment) (places : List ℕ) (b : Board) (i : ℕ) : Type 0 where
+  pub enough : k .count ≤ length (k .slate)
+  pub bookable : 0 < k .count → Bookable (k .start) (k .end) (k .category)
+  pub ahead : Ahead k places b (linesFrom k i)
+
+pub left-all : (k : Commitment) (places : List ℕ) → length (k .board .resources) ≡ 16 → Known (k .board) places → Fine k → Left k places (k .board) 0
+left-all k places long known f =
+    let z : k .count - 0 ≡ k .count = omega arith in
+    record {
+      enough = f .enough;
+      bookable = f .bookable;
+      ahead = rw z (record { long = long; valid = f .valid; known = known; right = f .right; room = f .room; same = refl });
+    }
+
+pub left-none : (k : Commitment) (places : List ℕ) (b : Board) (i : ℕ) → Left k places b i → k .count ≤ i → b ≡ wholeOf k
+left-none k places b i a l = ahead-none k places b (linesFrom k i) (lines-none k i l) (a .ahead)
+
+module _ (k : Commitment) (places : List ℕ) (b : Board) (i : ℕ) (a : Left k places b i) (l : i < k .count) where
   abbrev row : List ℕ
-  row = getD slate i []
+  row = getD (k .slate) i []
 
-  abbrev at-row : ℕ
-  at-row = getD places (getD row 0 0) 0
+  left : Ahead k places b (lineOf row ∷ linesFrom k (i + 1))
+  left = subst (Ahead k places b) (lines-left k i l (a .enough)) (a .ahead)
 
-  left : Ahead start end category places whole b (lineOf row ∷ linesOf (count - (i + 1)) (drop (i + 1) slate))
-  left = subst (Ahead start end category places whole b) (lines-left slate i count l m) a
+  pub left-bookable : Bookable (k .start) (k .end) (k .category)
+  left-bookable = a .bookable (omega arith)
 
-  pub row-here : RowHere b places row
-  unfolding lineOf
-  row-here = ahead-here start end category places whole b (lineOf row) (linesOf (count - (i + 1)) (drop (i + 1) slate)) left
+  -- what the code read of the row
+  module _ (n : ℕ) (e : n ≡ numberIn row) where
+    pub row-here : Here b n (getD places n 0) (unitsIn row)
+    unfolding lineOf
+    row-here = rw e (ahead-here k places b (lineOf row) (linesFrom k (i + 1)) left)
 
-  -- what is booked does not depend on the number that the line names
-  pub row-next : Bookable start end category → (x : Resource) (number : ℕ) → x ≡ booked start end category (record { number = number; units = getD row 2 0; companion = not (eqb (getD row 3 0) 0) }) (resourceAt b at-row)
-      → Ahead start end category places whole (withResource b at-row x) (linesOf (count - (i + 1)) (drop (i + 1) slate))
-  unfolding lineOf booked
-  row-next w x number e = ahead-next start end category places whole b (lineOf row) (linesOf (count - (i + 1)) (drop (i + 1) slate)) left w x e
+    -- what is booked does not depend on the number that the line names
+    pub row-next : (units : ℕ) (companion : Bool) → units ≡ unitsIn row → companion ≡ isCompanion row
+        → (x : Resource) (name : ℕ) → x ≡ booked (k .start) (k .end) (k .category) (lineWith name units companion) (resourceAt b (getD places n 0))
+        → Left k places (withResource b (getD places n 0) x) (i + 1)
+    unfolding lineOf booked
+    row-next units companion f g x name h = record {
+      enough = a .enough;
+      bookable = a .bookable;
+      ahead = rw e (ahead-next k places b (lineOf row) (linesFrom k (i + 1)) left left-bookable x (rw (e, f, g) at h));
+    }

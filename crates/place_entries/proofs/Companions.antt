@@ -10,11 +10,12 @@ use lib.Seq.{take-suc-set, getD-take, length-take-le}
 use lib.Dec.{eqb, ltb}
 use Rattle.board.specs.Laws.Counts.{countTo, count-none, count-most, count-more}
 use Rattle.scheduler.specs.declared.Entry.{Entry}
-use Rattle.scheduler.specs.Fitting.{among, joinEach, companionEntry}
+use Rattle.scheduler.specs.Fitting.{among, joinEach}
+use Rattle.scheduler.specs.Entries.{companionEntry, noEntry}
 use Rattle.scheduler.specs.Laws.Events.{among-append}
 use Rattle.cells.specs.Every.{Each}
 use Rattle.cells.specs.Laws.Basics.{or-right, take-next, take-split}
-use Rattle.place_entries.specs.Cells.{noEntry, numberIn, Small}
+use Rattle.place_entries.specs.Cells.{entryNumber, Small}
 use Rattle.cells.specs.Laws.Arrays.{each-at}
 
 join-last : (held joined cs : List ℕ) (c : ℕ) → joinEach held joined (cs ++ (c ∷ [])) ≡ cond (among c held || among c (joinEach held joined cs)) (joinEach held joined cs) (joinEach held joined cs ++ (c ∷ []))
@@ -52,11 +53,11 @@ module _ (es : List Entry) (n : ℕ) (js : List ℕ) (xs : List Entry) (k : ℕ)
   joined-few = omega (arith, j .first, j .count, j .once, count-most (λ n. among n js) 16)
 
   -- those already there
-  joined-numbers : (c : ℕ) → among c (map numberIn (take k xs)) ≡ among c (map numberIn es) || among c js
+  joined-numbers : (c : ℕ) → among c (map entryNumber (take k xs)) ≡ among c (map entryNumber es) || among c js
   joined-numbers c =
-      ap (λ (ys : List Entry). among c (map numberIn ys)) (j .entries)
-      ∙ ap (among c) (map-append numberIn es (map companionEntry js) ∙ ap (λ (ys : List ℕ). map numberIn es ++ ys) (map-map numberIn companionEntry js ∙ map-id js))
-      ∙ among-append c (map numberIn es) js
+      ap (λ (ys : List Entry). among c (map entryNumber ys)) (j .entries)
+      ∙ ap (among c) (map-append entryNumber es (map companionEntry js) ∙ ap (λ (ys : List ℕ). map entryNumber es ++ ys) (map-map entryNumber companionEntry js ∙ map-id js))
+      ∙ among-append c (map entryNumber es) js
 
   module _ (c : ℕ) (l : c < 16) (new : among c js ≡ false) where
     more : length (js ++ (c ∷ [])) ≡ tally (js ++ (c ∷ [])) 16
@@ -79,46 +80,46 @@ module _ (es : List Entry) (n : ℕ) (js : List ℕ) (xs : List Entry) (k : ℕ)
 
 -- one entry more is looked at
 module _ (es : List Entry) (number i : ℕ) (l : i < length es) where
-  among-next : among number (map numberIn (take (i + 1) es)) ≡ among number (map numberIn (take i es)) || eqb (getD es i noEntry .number) number
+  among-next : among number (map entryNumber (take (i + 1) es)) ≡ among number (map entryNumber (take i es)) || eqb (getD es i noEntry .number) number
   unfolding among
   among-next =
-      ap (λ (xs : List Entry). among number (map numberIn xs)) (take-next es i noEntry l)
-      ∙ ap (among number) (map-append numberIn (take i es) (getD es i noEntry ∷ []))
-      ∙ among-append number (map numberIn (take i es)) (getD es i noEntry .number ∷ [])
-      ∙ ap (λ (p : Bool). among number (map numberIn (take i es)) || p) (or-false (eqb (getD es i noEntry .number) number))
+      ap (λ (xs : List Entry). among number (map entryNumber xs)) (take-next es i noEntry l)
+      ∙ ap (among number) (map-append entryNumber (take i es) (getD es i noEntry ∷ []))
+      ∙ among-append number (map entryNumber (take i es)) (getD es i noEntry .number ∷ [])
+      ∙ ap (λ (p : Bool). among number (map entryNumber (take i es)) || p) (or-false (eqb (getD es i noEntry .number) number))
 
-  pub among-other : among number (map numberIn (take i es)) ≡ false → (getD es i noEntry .number ≡ number → ⊥) → among number (map numberIn (take (i + 1) es)) ≡ false
+  pub among-other : among number (map entryNumber (take i es)) ≡ false → (getD es i noEntry .number ≡ number → ⊥) → among number (map entryNumber (take (i + 1) es)) ≡ false
   among-other e h = among-next ∙ rw (e, ne-eqb (getD es i noEntry .number) number h) refl
 
-  pub among-found : among number (map numberIn (take i es)) ≡ false → getD es i noEntry .number ≡ number → (n : ℕ) → i < n → among number (map numberIn (take n es)) ≡ true
+  pub among-found : among number (map entryNumber (take i es)) ≡ false → getD es i noEntry .number ≡ number → (n : ℕ) → i < n → among number (map entryNumber (take n es)) ≡ true
   among-found e h n m =
-      ap (λ (xs : List Entry). among number (map numberIn xs)) (take-split es i n m)
-      ∙ ap (among number) (map-append numberIn (take (i + 1) es) (take (n - (i + 1)) (drop (i + 1) es)))
-      ∙ among-append number (map numberIn (take (i + 1) es)) (map numberIn (take (n - (i + 1)) (drop (i + 1) es)))
+      ap (λ (xs : List Entry). among number (map entryNumber xs)) (take-split es i n m)
+      ∙ ap (among number) (map-append entryNumber (take (i + 1) es) (take (n - (i + 1)) (drop (i + 1) es)))
+      ∙ among-append number (map entryNumber (take (i + 1) es)) (map entryNumber (take (n - (i + 1)) (drop (i + 1) es)))
       ∙ rw (among-next, e, eq-eqb (getD es i noEntry .number) number h) refl
 
 -- one companion more
-module _ (es : List Entry) (n : ℕ) (cs : List ℕ) (i : ℕ) (xs : List Entry) (k : ℕ) (l : i < length cs) (j : Joined es n (joinEach (map numberIn es) [] (take i cs)) xs k) where
+module _ (es : List Entry) (n : ℕ) (cs : List ℕ) (i : ℕ) (xs : List Entry) (k : ℕ) (l : i < length cs) (j : Joined es n (joinEach (map entryNumber es) [] (take i cs)) xs k) where
   abbrev js : List ℕ
-  js = joinEach (map numberIn es) [] (take i cs)
+  js = joinEach (map entryNumber es) [] (take i cs)
 
   abbrev c : ℕ
   c = getD cs i 0
 
-  next-is : (p : Bool) → among c (map numberIn (take k xs)) ≡ p → joinEach (map numberIn es) [] (take (i + 1) cs) ≡ cond p js (js ++ (c ∷ []))
-  next-is p e = rw (take-next cs i 0 l, ← e, joined-numbers es n js xs k j c) (join-last (map numberIn es) [] (take i cs) c)
+  next-is : (p : Bool) → among c (map entryNumber (take k xs)) ≡ p → joinEach (map entryNumber es) [] (take (i + 1) cs) ≡ cond p js (js ++ (c ∷ []))
+  next-is p e = rw (take-next cs i 0 l, ← e, joined-numbers es n js xs k j c) (join-last (map entryNumber es) [] (take i cs) c)
 
-  pub join-skip : among c (map numberIn (take k xs)) ≡ true → Joined es n (joinEach (map numberIn es) [] (take (i + 1) cs)) xs k
+  pub join-skip : among c (map entryNumber (take k xs)) ≡ true → Joined es n (joinEach (map entryNumber es) [] (take (i + 1) cs)) xs k
   join-skip e = rw (next-is true e) j
 
-  module _ (e : among c (map numberIn (take k xs)) ≡ false) (small : c < 16) where
+  module _ (e : among c (map entryNumber (take k xs)) ≡ false) (small : c < 16) where
     new : among c js ≡ false
-    new = or-right (among c (map numberIn es)) (among c js) (sym (joined-numbers es n js xs k j c) ∙ e)
+    new = or-right (among c (map entryNumber es)) (among c js) (sym (joined-numbers es n js xs k j c) ∙ e)
 
     pub join-room : k < 24
     join-room = joined-room es n js xs k j c small new
 
-    pub join-on : Joined es n (joinEach (map numberIn es) [] (take (i + 1) cs)) (set xs k (companionEntry c)) (k + 1)
+    pub join-on : Joined es n (joinEach (map entryNumber es) [] (take (i + 1) cs)) (set xs k (companionEntry c)) (k + 1)
     join-on = rw (next-is false e) (joined-on es n js xs k j c small new)
 
 pub small-at : (xs : List ℕ) (n : ℕ) → n ≤ length xs → Each Small (take n xs) → (i : ℕ) → i < n → getD xs i 0 < 16

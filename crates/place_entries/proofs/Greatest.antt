@@ -7,7 +7,7 @@ use Rattle.calendar.specs.Laws.Searching.{greatest-snoc}
 use Rattle.scheduler.specs.declared.Entry.{Entry}
 use Rattle.scheduler.specs.Fitting.{greatestSetup}
 use Rattle.cells.specs.Laws.Basics.{take-next}
-use Rattle.place_entries.specs.Cells.{noEntry}
+use Rattle.scheduler.specs.Entries.{noEntry}
 
 greatest-last : (es : List Entry) (e : Entry) → greatestSetup (es ++ (e ∷ [])) ≡ max (greatestSetup es) (e .setup)
 unfolding greatestSetup

@@ -26,10 +26,11 @@ use Rattle.scheduler.specs.declared.Entry.{Entry}
 use Rattle.scheduler.specs.declared.Selection.{Selection}
 use Rattle.scheduler.specs.Alone.{companionsOf, spanOf}
 use Rattle.scheduler.specs.Choosing.{Held}
-use Rattle.scheduler.specs.Fitting.{numberOf, numbersOf, durationTogether, heldEntry, heldEntries, greatestSetup, joinEach, allCompanions, companionEntry, companionEntries, entriesOf, spanTogether}
+use Rattle.scheduler.specs.Fitting.{numberOf, numbersOf, durationTogether, entryOf, heldEntries, greatestSetup, joinEach, allCompanions, companionEntries, entriesOf, spanTogether}
+use Rattle.scheduler.specs.Entries.{heldEntry, companionEntry, noEntry}
 use Rattle.scheduler.specs.Selections.{noSelection, heldOf, heldTo, OnPlaces}
 use Rattle.place_entries.specs.declared.Parts.{Parts}
-use Rattle.place_entries.specs.Cells.{noEntry, numberIn}
+use Rattle.place_entries.specs.Cells.{entryNumber}
 use Rattle.place_entries.specs.Parts.{keptSetup, setupAt, PlansKnown, Parted}
 use Rattle.place_plans.specs.declared.Plan.{Plan}
 use Rattle.place_plans.specs.Plans.{noPlan, planWith}
@@ -55,7 +56,7 @@ kept-true f x own s e h = rw e h
 pub kept-false : (f : Bool) (x own s : ℕ) → f ≡ false → s ≡ own → s ≡ cond f x own
 kept-false f x own s e h = rw e h
 
-pub entry-kept : (p : Parts) (hs : List Selection) (own k s : ℕ) → s ≡ keptSetup p own k → record { number = getD (p .numbers) k 0; setup = s; units = getD hs k noSelection .usage; companion = false } ≡ setupAt p hs own k
+pub entry-kept : (p : Parts) (hs : List Selection) (own k s : ℕ) → s ≡ keptSetup p own k → heldEntry (getD (p .numbers) k 0) s (getD hs k noSelection .usage) ≡ setupAt p hs own k
 entry-kept p hs own k s e = rw e refl
 
 -- two arrays filled together
@@ -94,8 +95,8 @@ module _ (b : Board) (hs : List Selection) where
     entries-are : (category own : ℕ) (p : Parts) (es : List Entry) → n ≤ length es → Parted b category hs n p → ((k : ℕ) → k < n → getD es k noEntry ≡ setupAt p hs own k) → take n es ≡ heldEntries category own (heldTo b hs n)
     unfolding heldOf
     entries-are category own p es m d h =
-        cells-map (λ x. heldEntry category own (heldOf b x)) noSelection noEntry n hs es l m (λ k i. h k i ∙ rw (d .numbers k i, d .setups k i own) refl)
-        ∙ sym (map-map (heldEntry category own) (heldOf b) (take n hs))
+        cells-map (λ x. entryOf category own (heldOf b x)) noSelection noEntry n hs es l m (λ k i. h k i ∙ rw (d .numbers k i, d .setups k i own) refl)
+        ∙ sym (map-map (entryOf category own) (heldOf b) (take n hs))
 
 -- the entries and the span of all held together
 module _ (b : Board) (a : Activity) (hs : List Selection) (n : ℕ) (p : Parts) (d : ActivityDuration) (es : List Entry) (v : valid b ≡ true) (w : Lawful (a .duration) (a .timings)) (c : a .category ≤ 15) (few : n ≤ 8) (wide : length es ≡ 24) (on-places : OnPlaces b hs n) (parts : Parted b (a .category) hs n p) (e : d ≡ durationOn (a .duration) (a .timings) (take n (p .numbers))) (f : (k : ℕ) → k < n → getD es k noEntry ≡ setupAt p hs (d .setup) k) where
@@ -122,9 +123,9 @@ module _ (b : Board) (a : Activity) (hs : List Selection) (n : ℕ) (p : Parts) 
   unfolding spanTogether spanOf
   span-is = rw (entries, together) refl
 
-  numbers : map numberIn (take n es) ≡ numbersOf (heldTo b hs n)
-  numbers = ap (map numberIn) entries ∙ map-map numberIn (heldEntry (a .category) (durationTogether a (heldTo b hs n) .setup)) (heldTo b hs n)
+  numbers : map entryNumber (take n es) ≡ numbersOf (heldTo b hs n)
+  numbers = ap (map entryNumber) entries ∙ map-map entryNumber (entryOf (a .category) (durationTogether a (heldTo b hs n) .setup)) (heldTo b hs n)
 
-  pub entries-whole : take n es ++ map companionEntry (joinEach (map numberIn (take n es)) [] (take (p .companions .len) (p .companions .numbers))) ≡ entriesOf a (heldTo b hs n)
+  pub entries-whole : take n es ++ map companionEntry (joinEach (map entryNumber (take n es)) [] (take (p .companions .len) (p .companions .numbers))) ≡ entriesOf a (heldTo b hs n)
   unfolding entriesOf companionEntries
   entries-whole = rw (numbers, entries, parts .companions) refl

@@ -1,19 +1,15 @@
 -- What is read of the cells of the entries, and of their companions' numbers.
 use Prim.Native.Nat.{ℕ, _<_}
-use mathlib.Core.Bool.{false}
 use mathlib.Core.List.{List, [], _++_, map}
 use lib.ListN.{take}
 use Rattle.scheduler.specs.declared.Entry.{Entry}
-use Rattle.scheduler.specs.Fitting.{joinEach, companionEntry}
+use Rattle.scheduler.specs.Fitting.{joinEach}
+use Rattle.scheduler.specs.Entries.{companionEntry}
 use Rattle.place_entries.specs.declared.joining.Entries.{Entries}
 use Rattle.place_entries.specs.declared.joining.Companions.{Companions}
 
--- what is read past an array's end
-abbrev pub noEntry : Entry
-noEntry = record { number = 0; setup = 0; units = 0; companion = false }
-
-abbrev pub numberIn : Entry → ℕ
-numberIn e = e .number
+abbrev pub entryNumber : Entry → ℕ
+entryNumber e = e .number
 
 -- a resource number
 abbrev pub Small : ℕ → Type 0
@@ -29,4 +25,4 @@ numbersIn c = take (c .len) (c .numbers)
 
 -- the entries, with these companions behind them where they are not already there, once each
 abbrev pub withJoined : List Entry → List ℕ → List Entry
-withJoined es cs = es ++ map companionEntry (joinEach (map numberIn es) [] cs)
+withJoined es cs = es ++ map companionEntry (joinEach (map entryNumber es) [] cs)

@@ -18,7 +18,8 @@ use Rattle.place_plans.specs.declared.Plan.{Plan}
 use Rattle.place_plans.specs.Plans.{Planned}
 use Rattle.place_entries.specs.declared.Parts.{Parts}
 use Rattle.place_entries.specs.declared.Spanned.{Spanned}
-use Rattle.place_entries.specs.Cells.{noEntry, Small, firstEntries, numbersIn}
+use Rattle.scheduler.specs.Entries.{heldEntry, noEntry}
+use Rattle.place_entries.specs.Cells.{Small, firstEntries, numbersIn}
 
 -- the setup kept for the k-th held; without a matrix it is `own`
 abbrev pub keptSetup : Parts → ℕ → ℕ → ℕ
@@ -26,12 +27,7 @@ keptSetup p own k = cond (getD (p .matrices) k false) (getD (p .setups) k 0) own
 
 -- the entry of the k-th held
 abbrev pub setupAt : Parts → List Selection → ℕ → ℕ → Entry
-setupAt p hs own k = record {
-  number = getD (p .numbers) k 0;
-  setup = keptSetup p own k;
-  units = getD hs k noSelection .usage;
-  companion = false;
-}
+setupAt p hs own k = heldEntry (getD (p .numbers) k 0) (keptSetup p own k) (getD hs k noSelection .usage)
 
 -- those held stand on a board that keeps the rules, and their plans are known
 pub record PlansKnown (b : Board) (a : Activity) (ready : ℕ) (plans : List Plan) (hs : List Selection) (n : ℕ) : Type 0 where

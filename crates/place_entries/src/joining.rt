@@ -7,7 +7,8 @@ ghost use Prim.Native.Nat.{_≤_};
 ghost use lib.ListN.{length, replicate};
 ghost use Rattle.scheduler.specs.Fitting.{among};
 ghost use Rattle.cells.specs.Every.{Each};
-ghost use Rattle.place_entries.specs.Cells.{noEntry, numberIn, Small, firstEntries, numbersIn, withJoined};
+ghost use Rattle.scheduler.specs.Entries.{noEntry};
+ghost use Rattle.place_entries.specs.Cells.{entryNumber, Small, firstEntries, numbersIn, withJoined};
 
 // The first `count` are the entries.
 pub struct Entries {
@@ -25,12 +26,7 @@ pub struct Companions {
 pub fn no_entries() -> Entries
     ensures { λ r. ⌜ (r .count ≡ 0) × (r .entries ≡ replicate 24 noEntry) ⌝ }
 {
-    let none = Entry {
-        number: 0,
-        setup: 0,
-        units: 0,
-        companion: false,
-    };
+    let none = scheduler::no_entry();
     Entries {
         entries: [none; 24],
         count: 0,
@@ -40,7 +36,7 @@ pub fn no_entries() -> Entries
 // An entry with this number is there.
 fn is_among(e: Entries, number: u8) -> bool
     requires { ⌜ e .count ≤ 24 ⌝ }
-    ensures { λ r. ⌜ r ≡ among number (map numberIn (firstEntries e)) ⌝ }
+    ensures { λ r. ⌜ r ≡ among number (map entryNumber (firstEntries e)) ⌝ }
 {
     let n = e.count;
     let mut i: usize = 0;
@@ -66,12 +62,7 @@ pub fn join_each(e: Entries, list: Companions) -> Entries
         let number = list.numbers[i];
         if !is_among(more, number) {
             let k = more.count;
-            more.entries[k] = Entry {
-                number: number,
-                setup: 0,
-                units: 1,
-                companion: true,
-            };
+            more.entries[k] = scheduler::companion_entry(number);
             more.count = k + 1;
         }
         i += 1;

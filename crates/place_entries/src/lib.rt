@@ -2,7 +2,6 @@
 // scheduler/simple.rs; 01, 'Fitting').
 use activity::Activity;
 use place_plans::Plan;
-use scheduler::Entry;
 use scheduler::Selection;
 
 mod joining;
@@ -101,12 +100,7 @@ fn held_entries(p: Parts, held: [Selection; 8], count: usize, own: u64) -> Entri
     while i < count {
         let h = held[i];
         let setup = if matrices[i] { setups[i] } else { own };
-        e.entries[i] = Entry {
-            number: numbers[i],
-            setup: setup,
-            units: h.usage,
-            companion: false,
-        };
+        e.entries[i] = scheduler::held_entry(numbers[i], setup, h.usage);
         i += 1;
     }
     e.count = count;

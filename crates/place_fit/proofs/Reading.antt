@@ -28,7 +28,7 @@ use Rattle.scheduler.specs.Laws.Owning.{own-valid}
 use Rattle.board.specs.Places.{Known}
 use Rattle.board.specs.Laws.Knowing.{number-place}
 use Rattle.place_companions.proofs.Seating.{shareAt}
-use Rattle.place_entries.specs.Cells.{noEntry}
+use Rattle.scheduler.specs.Entries.{noEntry}
 use Rattle.place_fit.specs.Closing.{EntriesOn}
 
 entry-share : (b : Board) (n : ℕ) (es : List Entry) (k : ℕ) → n ≤ length es → k < n → getD (sharesOf b (take n es)) k noShare ≡ shareOf b (getD es k noEntry)

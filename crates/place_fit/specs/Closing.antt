@@ -17,7 +17,7 @@ use Rattle.scheduler.specs.declared.Entry.{Entry}
 use Rattle.scheduler.specs.Alone.{Share}
 use Rattle.scheduler.specs.Fitting.{fitting, endOf}
 use Rattle.place_entries.specs.declared.joining.Entries.{Entries}
-use Rattle.place_entries.specs.Cells.{noEntry}
+use Rattle.scheduler.specs.Entries.{noEntry}
 use Rattle.place_fit.specs.declared.Fit.{Fit}
 use Rattle.place_fit.specs.declared.Fit.the-variants.{At, Nothing}
 

@@ -16,7 +16,8 @@ use Rattle.board.specs.Valid.{valid}
 use Rattle.scheduler.specs.declared.Entry.{Entry}
 use Rattle.scheduler.specs.declared.Selection.{Selection}
 use Rattle.scheduler.specs.Choosing.{Held, chosen, choosing}
-use Rattle.scheduler.specs.Fitting.{heldEntry, heldEntries, durationTogether, companionEntry, companionEntries, joinEach, numbersOf, allCompanions, entriesOf}
+use Rattle.scheduler.specs.Fitting.{entryOf, heldEntries, durationTogether, companionEntries, joinEach, numbersOf, allCompanions, entriesOf}
+use Rattle.scheduler.specs.Entries.{companionEntry, noEntry}
 use Rattle.scheduler.specs.Selections.{noSelection, heldOf, heldTo, OnPlaces}
 use Rattle.cells.specs.Every.{Each}
 use Rattle.cells.specs.Laws.Each.{each-all, each-append, each-in-map}
@@ -25,7 +26,6 @@ use Rattle.scheduler.specs.Plain.{Chooses, enough, heldAt}
 use Rattle.scheduler.specs.Theorems.Meaning.{choosing-means}
 use Rattle.activity.specs.Laws.Judging.{some-of-each}
 use Rattle.scheduler.specs.Laws.Reported.{held-at-whole, entries-on}
-use Rattle.place_entries.specs.Cells.{noEntry}
 use Rattle.place_fit.specs.Closing.{EntriesOn}
 
 module _ (a : Activity) where
@@ -34,7 +34,7 @@ module _ (a : Activity) where
   entries-some hs z =
       let J = joinEach (numbersOf hs) [] (allCompanions hs) in
       each-append (λ e. 1 ≤ e .units) (heldEntries (a .category) (durationTogether a hs .setup) hs) (companionEntries hs)
-      (each-in-map (λ e. 1 ≤ e .units) (heldEntry (a .category) (durationTogether a hs .setup)) hs z)
+      (each-in-map (λ e. 1 ≤ e .units) (entryOf (a .category) (durationTogether a hs .setup)) hs z)
       (each-in-map (λ e. 1 ≤ e .units) companionEntry J (each-all (λ c. 1 ≤ 1) J (λ c. omega arith)))
 
 held-usage : (b : Board) (hs : List Selection) → Each (λ h. 1 ≤ h .usage) hs → Each {A = Held} (λ h. 1 ≤ h .usage) (map (heldOf b) hs)

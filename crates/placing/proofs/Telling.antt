@@ -18,14 +18,15 @@ use Rattle.scheduler.specs.declared.Entry.{Entry}
 use Rattle.scheduler.specs.Alone.{Share}
 use Rattle.scheduler.specs.Fitting.{sharesOf, fitting, endOf}
 use Rattle.scheduler.specs.Placing as placement
-use Rattle.scheduler.specs.Placing.{Reply, placed, chosenNone, started, fitted, placeRefusal, rowOf, slateAfter}
+use Rattle.scheduler.specs.Placing.{Reply, chosenNone, started, fitted, placeRefusal, slateAfter}
+use Rattle.scheduler.specs.Rows.{rowOf}
 use Rattle.place_fit.specs.Closing.{withEnd, closing}
-use Rattle.placing.specs.Told.{told}
-use Rattle.placing.specs.declared.Placement.the-variants.{Placed, ChosenNone}
+use Rattle.placing.specs.Told.{placedOf, told}
+use Rattle.placing.specs.declared.PlaceReply.the-variants as reply
 
 -- a start and its end as a reply
 unfoldable replyFrom : ℕ → List Entry → asking.AskReply → Reply
-replyFrom t es (asking.fit s e) = placed t s e es
+replyFrom t es (asking.fit s e) = placement.ended t s es (at e)
 replyFrom t es asking.none = chosenNone t
 replyFrom t es (asking.refused n) = chosenNone t
 
@@ -52,13 +53,14 @@ module _ (b : Board) (a : Activity) (span t : ℕ) (es : List Entry) (n : ℕ) (
   unfolding fitted closing
   fitted-is = sym (ap (replyFrom t es) e ∙ closing-reply a (sharesOf b es) span t es (fitting (a .resumable) (sharesOf b es) (a .calendar) span t))
 
-  pub fitted-placed : (s d : ℕ) → r ≡ asking.fit s d → (Placed t s d n ≡ told (fitted b a span t es)) × (map rowOf es ++ drop n slate ≡ slateAfter (fitted b a span t es) slate)
-  unfolding replyFrom told slateAfter
+  pub fitted-placed : (s d : ℕ) → r ≡ asking.fit s d
+      → (reply.Placed (record { choosing = t; start = s; end = d; count = n }) ≡ told (fitted b a span t es)) × (map rowOf es ++ drop n slate ≡ slateAfter (fitted b a span t es) slate)
+  unfolding replyFrom told placedOf slateAfter placement.ended
   fitted-placed s d h =
-      let w : fitted b a span t es ≡ placed t s d es = fitted-is ∙ ap (replyFrom t es) h in
-      (sym (ap told w ∙ ap (Placed t s d) long), sym (ap (λ (x : Reply). slateAfter x slate) w ∙ ap (λ (k : ℕ). map rowOf es ++ drop k slate) long))
+      let w : fitted b a span t es ≡ placement.ended t s es (at d) = fitted-is ∙ ap (replyFrom t es) h in
+      rw (w, ← long) (refl, refl)
 
-  pub fitted-none : r ≡ asking.none → (ChosenNone t ≡ told (fitted b a span t es)) × (slate ≡ slateAfter (fitted b a span t es) slate)
+  pub fitted-none : r ≡ asking.none → (reply.ChosenNone t ≡ told (fitted b a span t es)) × (slate ≡ slateAfter (fitted b a span t es) slate)
   unfolding replyFrom told slateAfter
   fitted-none h =
       let w : fitted b a span t es ≡ chosenNone t = fitted-is ∙ ap (replyFrom t es) h in

@@ -7,8 +7,8 @@ use native.Mathlib.Omega.{arith}
 use lib.ListN.{length, getD, set, take, drop, length-map, length-append, length-drop}
 use lib.Seq.{set-at, length-take-le, take-suc, drop-cons}
 use Rattle.scheduler.specs.declared.Entry.{Entry}
-use Rattle.scheduler.specs.Placing.{rowOf}
-use Rattle.place_entries.specs.Cells.{noEntry}
+use Rattle.scheduler.specs.Rows.{rowOf}
+use Rattle.scheduler.specs.Entries.{noEntry}
 
 module _ (es : List Entry) (slate : List (List ℕ)) where
   abbrev pub written : ℕ → List (List ℕ)

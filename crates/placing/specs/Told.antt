@@ -2,26 +2,31 @@
 -- the slate.
 use lib.ListN.{length}
 use Rattle.calendar.specs.Search.{Found, nothing, at}
-use Rattle.scheduler.specs.Placing.{Reply, placed, chosenNone, none, refused}
-use Rattle.placing.specs.declared.Placement.{Placement}
-use Rattle.placing.specs.declared.Placement.the-variants.{Placed, ChosenNone, None, Refused}
+use Rattle.scheduler.specs.Placing.{Placement, Reply, placed, chosenNone, none, refused}
+use Rattle.placing.specs.declared.Placed.{Placed}
+use Rattle.placing.specs.declared.PlaceReply.{PlaceReply}
+use Rattle.placing.specs.declared.PlaceReply.the-variants as reply
 
-unfoldable pub told : Reply → Placement
-told (placed t s e es) = Placed t s e (length es)
-told (chosenNone t) = ChosenNone t
-told none = None
-told (refused n) = Refused n
+-- the numbers that are told of a placement
+unfoldable pub placedOf : Placement → Placed
+placedOf p = record { choosing = p .choosing; start = p .start; end = p .end; count = length (p .entries) }
+
+unfoldable pub told : Reply → PlaceReply
+told (placed p) = reply.Placed (placedOf p)
+told (chosenNone t) = reply.ChosenNone t
+told none = reply.None
+told (refused n) = reply.Refused n
 
 -- the choosing instant that an answer tells
-unfoldable pub instantOf : Placement → Found
-instantOf (Placed t s e n) = at t
-instantOf (ChosenNone t) = at t
-instantOf None = nothing
-instantOf (Refused n) = nothing
+unfoldable pub instantOf : PlaceReply → Found
+instantOf (reply.Placed p) = at (p .choosing)
+instantOf (reply.ChosenNone t) = at t
+instantOf reply.None = nothing
+instantOf (reply.Refused n) = nothing
 
 -- the number with which it refuses, nothing where it does not
-unfoldable pub refusedBy : Placement → Found
-refusedBy (Placed t s e n) = nothing
-refusedBy (ChosenNone t) = nothing
-refusedBy None = nothing
-refusedBy (Refused n) = at n
+unfoldable pub refusedBy : PlaceReply → Found
+refusedBy (reply.Placed p) = nothing
+refusedBy (reply.ChosenNone t) = nothing
+refusedBy reply.None = nothing
+refusedBy (reply.Refused n) = at n

@@ -3,26 +3,36 @@ use activity::Activity;
 use board::Board;
 use place_entries::Entries;
 use place_fit::Fit;
+use scheduler::rows::Row;
 ghost use mathlib.Core.Path.{_≡_};
 ghost use mathlib.Core.List.{_++_, map};
 ghost use Prim.Native.Nat.{_≤_};
 ghost use lib.ListN.{length, drop};
 ghost use Rattle.board.specs.declared.Board as declared;
 ghost use Rattle.board.specs.Valid.{valid};
-ghost use Rattle.scheduler.specs.Placing.{rowOf, slateAfter, placeRefusal, placeReply};
+ghost use Rattle.scheduler.specs.Placing.{slateAfter, placeRefusal, placeReply};
+ghost use Rattle.scheduler.specs.Rows.{rowOf};
 ghost use Rattle.place_entries.specs.Cells.{firstEntries};
 ghost use Rattle.placing.specs.Told.{told};
 
-// What placing answers: choosing instant, start, end and how many entries; 'chosen, none' with the choosing instant; none; a refusal.
-pub enum Placement {
-    Placed(u64, u64, u64, usize),
+// The numbers of a placement: the choosing instant, the start and the end, and how many entries stand at the front of the slate.
+pub struct Placed {
+    pub choosing: u64,
+    pub start: u64,
+    pub end: u64,
+    pub count: usize,
+}
+
+// What placing answers: a placement, 'chosen, none' with the choosing instant, none, or a refusal.
+pub enum PlaceReply {
+    Placed(Placed),
     ChosenNone(u64),
     None,
     Refused(u8),
 }
 
 // Writes the entries at the front of the slate.
-fn write(slate: &mut [[u64; 4]], e: Entries)
+fn write(slate: &mut [Row], e: Entries)
     requires { ⌜ (e .count ≤ 24) × (24 ≤ length (now slate)) ⌝ }
     ensures { λ _. ⌜ now (slate .exit) ≡ map rowOf (firstEntries e) ++ drop (e .count) (now (slate .entry)) ⌝ }
 {
@@ -30,7 +40,7 @@ fn write(slate: &mut [[u64; 4]], e: Entries)
     let mut i: usize = 0;
     while i < n {
         let x = e.entries[i];
-        let row = scheduler::row_of(x);
+        let row = scheduler::rows::row_of(x);
         slate[i] = row;
         i += 1;
     }
@@ -55,14 +65,14 @@ fn place_refusal(right: bool, a: Activity, ready: u64, slate: usize) -> u8
 
 // Places the order from ready on, and writes the entries of a placement at the front of the slate; or refuses: 15 a board or an own
 // calendar that breaks the rules, 7 a slate under 24 entries, then the order's refusals.
-pub fn place_activity(b: Board, a: Activity, ready: u64, slate: &mut [[u64; 4]]) -> Placement
+pub fn place_activity(b: Board, a: Activity, ready: u64, slate: &mut [Row]) -> PlaceReply
     ensures { λ r. ⌜ r ≡ told (placeReply b a ready (length (now (slate .entry)))) ⌝ }
     ensures { λ _. ⌜ now (slate .exit) ≡ slateAfter (placeReply b a ready (length (now (slate .entry)))) (now (slate .entry)) ⌝ }
 {
     let p = board_rules::places_of(b);
     let refusal = place_refusal(p.right, a, ready, slate.len());
     if refusal != 0 {
-        return Placement::Refused(refusal);
+        return PlaceReply::Refused(refusal);
     }
     let places = p.places;
     let release = a.release;
@@ -72,7 +82,7 @@ pub fn place_activity(b: Board, a: Activity, ready: u64, slate: &mut [[u64; 4]])
     if a.len != 0 {
         let c = place_choice::choose(b, a, t, places);
         if !c.chosen {
-            return Placement::None;
+            return PlaceReply::None;
         }
         let held = c.held;
         let plans = c.plans;
@@ -89,8 +99,13 @@ pub fn place_activity(b: Board, a: Activity, ready: u64, slate: &mut [[u64; 4]])
     match f {
         Fit::At(s, end) => {
             write(slate, e);
-            Placement::Placed(t, s, end, e.count)
+            PlaceReply::Placed(Placed {
+                choosing: t,
+                start: s,
+                end: end,
+                count: e.count,
+            })
         }
-        Fit::Nothing => Placement::ChosenNone(t),
+        Fit::Nothing => PlaceReply::ChosenNone(t),
     }
 }

@@ -9,9 +9,10 @@ use lib.Dec.{leb, eqb}
 use borrow.Author.Tests.{le-leb, lt-leb, eq-eqb, ne-eqb}
 use Rattle.record_bodies.specs.Numbers.{little}
 use Rattle.board.specs.declared.Entered.{Entered}
-use Rattle.scheduler.specs.Placing.{Reply, placed, chosenNone, none, refused, rowOf, slateAfter, placeReply}
+use Rattle.scheduler.specs.Placing.{Reply, placed, chosenNone, none, refused, slateAfter, placeReply}
+use Rattle.scheduler.specs.Rows.{rowOf}
 use Rattle.scheduler.specs.Committing.{commitReply}
-use Rattle.placing.specs.declared.Placement.{Placement}
+use Rattle.placing.specs.declared.PlaceReply.{PlaceReply}
 use Rattle.placing.specs.Told as placed
 use Rattle.record_desk.specs.declared.Desk.{Desk}
 use Rattle.record_board.specs.declared.DeskStepped.{DeskStepped}
@@ -24,7 +25,7 @@ use Rattle.record_offer.specs.Offers.{offerLen, placing, answerOf, place
 
 -- placing, from its parts
 module _ (d : Desk) (slate : List (List ℕ)) (bs : List ℕ) (i ready : ℕ) (f : ready ≡ little bs i 8) where
-  pub placed-answer : (p : Placement) (a : OfferAnswer) → p ≡ placed.told (placeReply (d .board) (d .activity) ready (length slate)) → a ≡ answerOf p → a ≡ placedAnswer d slate bs i
+  pub placed-answer : (p : PlaceReply) (a : OfferAnswer) → p ≡ placed.told (placeReply (d .board) (d .activity) ready (length slate)) → a ≡ answerOf p → a ≡ placedAnswer d slate bs i
   unfolding placedAnswer placing
   placed-answer p a g h = rw (← f, ← g) h
 
@@ -65,8 +66,8 @@ ends-plain t d a i h e = rw e (refl, h)
 
 -- the entries of a placement stand on the slate
 on-slate : (r : Reply) (slate : List (List ℕ)) → shown (answerOf (placed.told r)) ≤ length (slateAfter r slate)
-unfolding shown answerOf placed.told slateAfter
-on-slate (placed t s e es) slate = omega (arith, length-append (map rowOf es) (drop (length es) slate), length-map es rowOf)
+unfolding shown answerOf placed.told placed.placedOf slateAfter
+on-slate (placed p) slate = omega (arith, length-append (map rowOf (p .entries)) (drop (length (p .entries)) slate), length-map (p .entries) rowOf)
 on-slate (chosenNone t) slate = omega arith
 on-slate none slate = omega arith
 on-slate (refused n) slate = omega arith

@@ -9,8 +9,8 @@ use lib.Dec.{leb, eqb}
 use Rattle.record_bodies.specs.Numbers.{little}
 use Rattle.scheduler.specs.Placing.{Reply, slateAfter, placeReply}
 use Rattle.scheduler.specs.Committing.{commitReply}
-use Rattle.placing.specs.declared.Placement.{Placement}
-use Rattle.placing.specs.declared.Placement.the-variants.{Placed, ChosenNone, None, Refused}
+use Rattle.placing.specs.declared.PlaceReply.{PlaceReply}
+use Rattle.placing.specs.declared.PlaceReply.the-variants.{Placed, ChosenNone, None, Refused}
 use Rattle.placing.specs.Told as placed
 use Rattle.record_desk.specs.declared.Desk.{Desk}
 use Rattle.record_board.specs.declared.DeskStepped.{DeskStepped}
@@ -28,13 +28,13 @@ offerLen kind bs i n = cond (eqb kind 25) (whole (n - i) 8) (cond (eqb kind 26) 
 unfoldable pub placing : Desk → List (List ℕ) → List ℕ → ℕ → Reply
 placing d slate bs i = placeReply (d .board) (d .activity) (little bs i 8) (length slate)
 
-unfoldable pub answerOf : Placement → OfferAnswer
-answerOf (Placed t s e n) = answer.Placed t s e n
+unfoldable pub answerOf : PlaceReply → OfferAnswer
+answerOf (Placed p) = answer.Placed p
 answerOf (ChosenNone t) = answer.Chosen t
 answerOf None = answer.None
 answerOf (Refused n) = answer.Refused n
 
--- choosing instant, start, end and the count of entries; 'chosen, none' with the choosing instant; none; a refusal
+-- the numbers of a placement; 'chosen, none' with the choosing instant; none; a refusal
 unfoldable pub placedAnswer : Desk → List (List ℕ) → List ℕ → ℕ → OfferAnswer
 placedAnswer d slate bs i = answerOf (placed.told (placing d slate bs i))
 
@@ -77,7 +77,7 @@ slateReply d slate bs i n =
 -- how many entries of the slate an answer speaks of
 unfoldable pub shown : OfferAnswer → ℕ
 shown answer.Nothing = 0
-shown (answer.Placed t s e n) = n
+shown (answer.Placed p) = p .count
 shown (answer.Chosen t) = 0
 shown answer.None = 0
 shown answer.Committed = 0

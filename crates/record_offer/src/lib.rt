@@ -1,11 +1,13 @@
 // What a record of a stream does in `offer` (docs/RECORDS.md, kinds 1 to 4 and 16 to 26): to a diary in hand, an order in hand, a board
 // and a slate.
-use placing::Placement;
+use placing::PlaceReply;
+use placing::Placed;
 use record_board::DeskStepped;
 use record_board::step;
 use record_bodies::body_len;
 use record_bodies::number;
 use record_desk::Desk;
+use scheduler::rows::Row;
 ghost use mathlib.Core.Path.{_≡_};
 ghost use Prim.Native.Nat.{_+_, _≤_};
 ghost use lib.ListN.{length};
@@ -13,10 +15,10 @@ ghost use Rattle.scheduler.specs.Placing.{slateAfter};
 ghost use Rattle.record_offer.specs.Offers.{offerLen, answerOf, placing as placingOf, placedAnswer, commitDoes};
 ghost use Rattle.record_offer.specs.Offers.{told as toldOf, ends, turnReply, SlateTurned};
 
-// What a record answers; `Nothing` prints nothing. A placement: choosing instant, start, end, and how many entries stand on the slate.
+// What a record answers; `Nothing` prints nothing.
 pub enum OfferAnswer {
     Nothing,
-    Placed(u64, u64, u64, usize),
+    Placed(Placed),
     Chosen(u64),
     None,
     Committed,
@@ -47,35 +49,30 @@ fn offer_len(kind: u8, bytes: &[u8], at: usize, len: usize) -> usize
 }
 
 // What placing answers.
-fn answer_of(p: Placement) -> OfferAnswer
-    ensures { λ r. ⌜ r ≡ answerOf p ⌝ }
+fn answer_of(r: PlaceReply) -> OfferAnswer
+    ensures { λ a. ⌜ a ≡ answerOf r ⌝ }
 {
-    match p {
-        Placement::Placed(choosing, start, end, count) => OfferAnswer::Placed(
-            choosing,
-            start,
-            end,
-            count,
-        ),
-        Placement::ChosenNone(choosing) => OfferAnswer::Chosen(choosing),
-        Placement::None => OfferAnswer::None,
-        Placement::Refused(n) => OfferAnswer::Refused(n),
+    match r {
+        PlaceReply::Placed(p) => OfferAnswer::Placed(p),
+        PlaceReply::ChosenNone(choosing) => OfferAnswer::Chosen(choosing),
+        PlaceReply::None => OfferAnswer::None,
+        PlaceReply::Refused(n) => OfferAnswer::Refused(n),
     }
 }
 
 // Kind 25: places the order in hand, on the slate.
-fn place(desk: Desk, slate: &mut [[u64; 4]], bytes: &[u8], at: usize) -> OfferAnswer
+fn place(desk: Desk, slate: &mut [Row], bytes: &[u8], at: usize) -> OfferAnswer
     requires { ⌜ at + 8 ≤ length (now bytes) ⌝ }
     ensures { λ r. ⌜ r ≡ placedAnswer desk (now (slate .entry)) (now (bytes .entry)) at ⌝ }
     ensures { λ _. ⌜ now (slate .exit) ≡ slateAfter (placingOf desk (now (slate .entry)) (now (bytes .entry)) at) (now (slate .entry)) ⌝ }
 {
     let ready = number(bytes, at, 8);
-    let p = placing::place_activity(desk.board, desk.activity, ready, slate);
-    answer_of(p)
+    let r = placing::place_activity(desk.board, desk.activity, ready, slate);
+    answer_of(r)
 }
 
 // Kind 26: commits the first entries of the slate, with the order's category.
-fn commit(desk: Desk, slate: &[[u64; 4]], bytes: &[u8], at: usize) -> DeskStepped
+fn commit(desk: Desk, slate: &[Row], bytes: &[u8], at: usize) -> DeskStepped
     requires { ⌜ at + 20 ≤ length (now bytes) ⌝ }
     ensures { λ r. ⌜ r ≡ commitDoes desk (now (slate .entry)) (now (bytes .entry)) at ⌝ }
 {
@@ -128,7 +125,7 @@ fn told(s: DeskStepped, answer: OfferAnswer, at: usize) -> OfferTurn
 
 // The record that begins at `at`, `len` being the end of the input: nothing where the input ends here, 9 for an unknown kind or a
 // cut body.
-pub fn record(desk: Desk, slate: &mut [[u64; 4]], bytes: &[u8], at: usize, len: usize) -> OfferTurn
+pub fn record(desk: Desk, slate: &mut [Row], bytes: &[u8], at: usize, len: usize) -> OfferTurn
     requires { ⌜ (at ≤ len) × (len ≤ length (now bytes)) ⌝ }
     ensures { λ r. ⌜ (r ≡ turnReply desk (now (slate .entry)) (now (bytes .entry)) at len) × (r .at ≤ len) ⌝ }
     ensures { λ r. ⌜ SlateTurned desk (now (slate .entry)) (now (bytes .entry)) at len (now (slate .exit)) (r .answer) ⌝ }

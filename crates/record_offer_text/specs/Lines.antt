@@ -1,12 +1,14 @@
 -- What an answer of `offer` prints, as bytes (docs/RECORDS.md).
-use Prim.Native.Nat.{ℕ}
+use Prim.Native.Nat.{ℕ, _+_, _*_}
 use mathlib.Core.List.{List, [], _∷_, _++_}
-use lib.ListN.{getD, take}
+use lib.ListN.{take}
 use Rattle.record_texts.specs.Text.{decimal}
 use Rattle.timeline.specs.Ask.{none, refused}
 use Rattle.record_diary_text.specs.Lines as slot
+use Rattle.scheduler.specs.Rows.{numberIn, setupIn, unitsIn, companionIn}
+use Rattle.placing.specs.declared.Placed.{Placed}
 use Rattle.record_offer.specs.declared.OfferAnswer.{OfferAnswer}
-use Rattle.record_offer.specs.declared.OfferAnswer.the-variants.{Nothing, Placed, Chosen, None, Committed, Refused}
+use Rattle.record_offer.specs.declared.OfferAnswer.the-variants as answer
 use Rattle.record_offer.specs.Offers.{shown}
 
 -- a space and a number
@@ -14,8 +16,10 @@ abbrev pub value : ℕ → List ℕ
 value n = 32 ∷ decimal n
 
 -- `placed CHOOSING START END COUNT`; 10 is the line's end
-unfoldable pub placedText : ℕ → ℕ → ℕ → ℕ → List ℕ
-placedText t s e n = (112 ∷ 108 ∷ 97 ∷ 99 ∷ 101 ∷ 100 ∷ []) ++ (value t ++ (value s ++ (value e ++ (value n ++ (10 ∷ [])))))
+unfoldable pub placedText : Placed → List ℕ
+placedText p =
+    (112 ∷ 108 ∷ 97 ∷ 99 ∷ 101 ∷ 100 ∷ [])
+    ++ (value (p .choosing) ++ (value (p .start) ++ (value (p .end) ++ (value (p .count) ++ (10 ∷ [])))))
 
 -- `chosen CHOOSING none`
 unfoldable pub chosenText : ℕ → List ℕ
@@ -25,7 +29,7 @@ chosenText t = (99 ∷ 104 ∷ 111 ∷ 115 ∷ 101 ∷ 110 ∷ []) ++ (value t +
 unfoldable pub entryText : List ℕ → List ℕ
 entryText row =
     (101 ∷ 110 ∷ 116 ∷ 114 ∷ 121 ∷ [])
-    ++ (value (getD row 0 0) ++ (value (getD row 1 0) ++ (value (getD row 2 0) ++ (value (getD row 3 0) ++ (10 ∷ [])))))
+    ++ (value (numberIn row) ++ (value (setupIn row) ++ (value (unitsIn row) ++ (value (companionIn row) ++ (10 ∷ [])))))
 
 unfoldable pub entriesText : List (List ℕ) → List ℕ
 entriesText [] = []
@@ -33,12 +37,22 @@ entriesText (row ∷ rows) = entryText row ++ entriesText rows
 
 -- `none` and `refused N` as in `slot`; `committed`
 unfoldable pub lineText : OfferAnswer → List ℕ
-lineText Nothing = []
-lineText (Placed t s e n) = placedText t s e n
-lineText (Chosen t) = chosenText t
-lineText None = slot.textOf (slot.line none)
-lineText Committed = 99 ∷ 111 ∷ 109 ∷ 109 ∷ 105 ∷ 116 ∷ 116 ∷ 101 ∷ 100 ∷ 10 ∷ []
-lineText (Refused n) = slot.textOf (slot.line (refused n))
+lineText answer.Nothing = []
+lineText (answer.Placed p) = placedText p
+lineText (answer.Chosen t) = chosenText t
+lineText answer.None = slot.textOf (slot.line none)
+lineText answer.Committed = 99 ∷ 111 ∷ 109 ∷ 109 ∷ 105 ∷ 116 ∷ 116 ∷ 101 ∷ 100 ∷ 10 ∷ []
+lineText (answer.Refused n) = slot.textOf (slot.line (refused n))
+
+-- the most bytes of the line, of an entry, and of both with 24 entries
+abbrev pub lineMost : ℕ
+lineMost = 91
+
+abbrev pub entryMost : ℕ
+entryMost = 90
+
+abbrev pub textMost : ℕ
+textMost = lineMost + 24 * entryMost
 
 -- the line, and behind a placement's its entries
 unfoldable pub textOf : OfferAnswer → List (List ℕ) → List ℕ

@@ -8,6 +8,9 @@ use activity::ResourceTiming;
 use activity::Timed;
 use board::Board;
 use calendar::Calendar;
+use scheduler::rows::BLANK_ROW;
+use scheduler::rows::Row;
+use scheduler::rows::row_of;
 use timeline::ResourceTimeline;
 ghost use Prim.Native.Nat.{_≤_};
 
@@ -181,13 +184,19 @@ pub fn any_order(x: u64) -> Activity {
 }
 
 // Rows of a slate that could be committed.
-pub fn any_slate(x: u64) -> [[u64; 4]; 32] {
-    let mut s: [[u64; 4]; 32] = [[0; 4]; 32];
+pub fn any_slate(x: u64) -> [Row; 32] {
+    let mut s: [Row; 32] = [BLANK_ROW; 32];
     let mut y = x;
     let mut i: usize = 0;
     while i < 32 {
         y = next(y);
-        s[i] = [3 * (y % 3), y / 64 % 10, 1 + y / 256 % 2, y / 512 % 2];
+        let mut e = scheduler::held_entry(
+            (3 * (y % 3)) as u8,
+            y / 64 % 10,
+            (1 + y / 256 % 2) as u32,
+        );
+        e.companion = y / 512 % 2 != 0;
+        s[i] = row_of(e);
         i += 1;
     }
     s

@@ -4,7 +4,8 @@
 use activity::Activity;
 use board::Board;
 use board::Entered;
-use placing::Placement;
+use placing::PlaceReply;
+use scheduler::rows::Row;
 
 mod bases;
 mod random;
@@ -68,43 +69,43 @@ fn rejected(t: Tally, n: u8) -> Tally {
     r
 }
 
-fn told(t: Tally, p: Placement) -> Tally {
+fn told(t: Tally, p: PlaceReply) -> Tally {
     let mut r = t;
     match p {
-        Placement::Placed(choosing, start, end, count) => r.placed = more(t.placed),
-        Placement::ChosenNone(choosing) => r.chosen = more(t.chosen),
-        Placement::None => r.nothing = more(t.nothing),
-        Placement::Refused(n) => return refused(t, n),
+        PlaceReply::Placed(placed) => r.placed = more(t.placed),
+        PlaceReply::ChosenNone(choosing) => r.chosen = more(t.chosen),
+        PlaceReply::None => r.nothing = more(t.nothing),
+        PlaceReply::Refused(n) => return refused(t, n),
     }
     r
 }
 
-fn is_15(p: Placement) -> bool {
+fn is_15(p: PlaceReply) -> bool {
     match p {
-        Placement::Placed(choosing, start, end, count) => false,
-        Placement::ChosenNone(choosing) => false,
-        Placement::None => false,
-        Placement::Refused(n) => n == 15,
+        PlaceReply::Placed(placed) => false,
+        PlaceReply::ChosenNone(choosing) => false,
+        PlaceReply::None => false,
+        PlaceReply::Refused(n) => n == 15,
     }
 }
 
 // How many rows of the slate a reply has written.
-fn written(p: Placement) -> usize {
+fn written(p: PlaceReply) -> usize {
     match p {
-        Placement::Placed(choosing, start, end, count) => count,
-        Placement::ChosenNone(choosing) => 0,
-        Placement::None => 0,
-        Placement::Refused(n) => 0,
+        PlaceReply::Placed(placed) => placed.count,
+        PlaceReply::ChosenNone(choosing) => 0,
+        PlaceReply::None => 0,
+        PlaceReply::Refused(n) => 0,
     }
 }
 
 // What is committed after a placing: the placement, or rows that were on the slate.
-fn commitment_of(p: Placement, ready: u64, category: u8, x: u64) -> Commitment {
+fn commitment_of(p: PlaceReply, ready: u64, category: u8, x: u64) -> Commitment {
     match p {
-        Placement::Placed(choosing, start, end, count) => Commitment {
-            count: count,
-            start: start,
-            end: end,
+        PlaceReply::Placed(placed) => Commitment {
+            count: placed.count,
+            start: placed.start,
+            end: placed.end,
             category: category,
         },
         _ => Commitment {
@@ -146,26 +147,26 @@ fn lent(x: u64) -> usize
 }
 
 // Places on the first `len` rows of a slate.
-fn place_front(b: Board, a: Activity, ready: u64, slate: &mut [[u64; 4]], len: usize) -> Placement
+fn place_front(b: Board, a: Activity, ready: u64, slate: &mut [Row], len: usize) -> PlaceReply
     requires { ⌜ len ≤ length (now slate) ⌝ }
 {
     placing::place_activity(b, a, ready, &mut slate[..len])
 }
 
 // Places on as many rows as `x` says.
-fn place(b: Board, a: Activity, ready: u64, slate: &mut [[u64; 4]; 32], x: u64) -> Placement {
+fn place(b: Board, a: Activity, ready: u64, slate: &mut [Row; 32], x: u64) -> PlaceReply {
     place_front(b, a, ready, slate, lent(x))
 }
 
 // Commits from the first `len` rows of a slate.
-fn commit_front(b: Board, slate: &[[u64; 4]], len: usize, c: Commitment) -> Entered
+fn commit_front(b: Board, slate: &[Row], len: usize, c: Commitment) -> Entered
     requires { ⌜ len ≤ length (now slate) ⌝ }
 {
     committing::commit(b, &slate[..len], c.count, c.start, c.end, c.category)
 }
 
 // Commits from as many rows as `x` says.
-fn commit(b: Board, slate: &[[u64; 4]; 32], x: u64, c: Commitment) -> Entered {
+fn commit(b: Board, slate: &[Row; 32], x: u64, c: Commitment) -> Entered {
     commit_front(b, slate, lent(x), c)
 }
 

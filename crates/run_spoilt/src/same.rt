@@ -5,6 +5,7 @@ use board::Resource;
 use board::TransitionMatrix;
 use calendar::Calendar;
 use calendar::TimeWindows;
+use scheduler::rows::Row;
 use timeline::ResourceTimeline;
 ghost use mathlib.Core.Path.{_≡_};
 ghost use mathlib.Core.Bool.{true};
@@ -30,14 +31,14 @@ fn same_words(a: &[u64], b: &[u64]) -> bool
     true
 }
 
-fn same_row(a: [u64; 4], b: [u64; 4]) -> bool
+fn same_row(a: Row, b: Row) -> bool
     ensures { λ r. ⌜ (r ≡ true → a ≡ b) ⌝ }
 {
     same_words(&a, &b)
 }
 
 // The rows from `from` on.
-pub fn same_rows(a: &[[u64; 4]; 32], b: &[[u64; 4]; 32], from: usize) -> bool
+pub fn same_rows(a: &[Row; 32], b: &[Row; 32], from: usize) -> bool
     ensures { λ r. ⌜ (r ≡ true → (k : ℕ) → from ≤ k → k < 32 → getD (now (a .entry)) k [] ≡ getD (now (b .entry)) k []) ⌝ }
 {
     let mut i = from;

@@ -16,6 +16,8 @@ use board::Resource;
 use board::TransitionMatrix;
 use calendar::Calendar;
 use calendar::TimeWindows;
+use scheduler::rows::Row;
+use scheduler::rows::WORDS;
 use timeline::ResourceTimeline;
 
 fn spoilt_spans(l: TimeWindows, x: u64) -> TimeWindows {
@@ -245,7 +247,7 @@ pub fn spoilt_order(order: Activity, x: u64, n: u64) -> Activity {
 }
 
 // `n` words of a slate, half of them in its first row.
-pub fn spoilt_slate(slate: [[u64; 4]; 32], x: u64, n: u64) -> [[u64; 4]; 32] {
+pub fn spoilt_slate(slate: [Row; 32], x: u64, n: u64) -> [Row; 32] {
     let mut s = slate;
     let mut y = x;
     let mut k: u64 = 0;
@@ -253,7 +255,7 @@ pub fn spoilt_slate(slate: [[u64; 4]; 32], x: u64, n: u64) -> [[u64; 4]; 32] {
         y = next(y);
         let i = cell(y);
         let mut row = s[i];
-        row[(y / 16 % 4) as usize] = word(next(y));
+        row[(y / 16) as usize % WORDS] = word(next(y));
         s[i] = row;
         k += 1;
     }

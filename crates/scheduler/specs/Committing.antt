@@ -2,7 +2,7 @@
 use Prim.Native.Nat.{ℕ, _+_, _≤_, _<_}
 use mathlib.Core.Bool.{Bool, not, _&&_, _||_, cond}
 use mathlib.Core.List.{List, [], _∷_, map}
-use lib.ListN.{length, getD, take}
+use lib.ListN.{length, take}
 use lib.Dec.{leb, ltb, eqb}
 use Rattle.calendar.specs.Limits.{lastInstant, mostUnits, mostBookings}
 use Rattle.timeline.specs.Book.{withBooking}
@@ -16,17 +16,21 @@ use Rattle.board.specs.Resources.{lookup, onBoard}
 use Rattle.board.specs.Valid as board
 use Rattle.board.specs.Enter.{entered, changed}
 use Rattle.scheduler.specs.Alone.{diaryOf}
+use Rattle.scheduler.specs.Rows.{numberIn, unitsIn, isCompanion}
 use mathlib.Core.Path.{_≡_}
 use Rattle.scheduler.specs.Alike.{AlikeDiary}
 
--- what a commitment reads of a row of the slate: the resource, the units, and whether it is a companion (any word but 0)
+-- what a commitment reads of a row of the slate: the resource, the units, and whether it is a companion
 pub record Line : Type 0 where
   pub number : ℕ
   pub units : ℕ
   pub companion : Bool
 
+abbrev pub lineWith : ℕ → ℕ → Bool → Line
+lineWith number units companion = record { number = number; units = units; companion = companion }
+
 unfoldable pub lineOf : List ℕ → Line
-lineOf row = record { number = getD row 0 0; units = getD row 2 0; companion = not (eqb (getD row 3 0) 0) }
+lineOf row = lineWith (numberIn row) (unitsIn row) (isCompanion row)
 
 -- the first `count` entries of the slate
 unfoldable pub linesOf : ℕ → List (List ℕ) → List Line

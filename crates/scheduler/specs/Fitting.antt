@@ -1,6 +1,6 @@
 -- 'Fitting': the entries of those held together, and the least start that suits all.
 use Prim.Native.Nat.{ℕ, suc, _+_, _-_, max}
-use mathlib.Core.Bool.{Bool, true, false, _&&_, _||_, cond}
+use mathlib.Core.Bool.{Bool, false, _&&_, _||_, cond}
 use mathlib.Core.List.{List, [], _∷_, _++_, map}
 use lib.Dec.{eqb}
 use Rattle.calendar.specs.declared.Calendar.{Calendar}
@@ -15,6 +15,7 @@ use Rattle.activity.specs.Durations.{durationOn}
 use Rattle.board.specs.declared.Board.{Board}
 use Rattle.board.specs.Setups.{setupOn}
 use Rattle.scheduler.specs.declared.Entry.{Entry}
+use Rattle.scheduler.specs.Entries.{heldEntry, companionEntry}
 use Rattle.scheduler.specs.Alone.{Share, allStart, lastOf, diaryOf, companionsOf, spanOf}
 use Rattle.scheduler.specs.Choosing.{Held}
 
@@ -28,16 +29,11 @@ numbersOf hs = map numberOf hs
 unfoldable pub durationTogether : Activity → List Held → ActivityDuration
 durationTogether a hs = durationOn (a .duration) (a .timings) (numbersOf hs)
 
-abbrev pub heldEntry : ℕ → ℕ → Held → Entry
-heldEntry category setup h = record {
-  number = h .resource .number;
-  setup = setupOn (h .resource) category setup;
-  units = h .usage;
-  companion = false;
-}
+abbrev pub entryOf : ℕ → ℕ → Held → Entry
+entryOf category setup h = heldEntry (h .resource .number) (setupOn (h .resource) category setup) (h .usage)
 
 abbrev pub heldEntries : ℕ → ℕ → List Held → List Entry
-heldEntries category setup hs = map (heldEntry category setup) hs
+heldEntries category setup hs = map (entryOf category setup) hs
 
 unfoldable pub greatestSetup : List Entry → ℕ
 greatestSetup es = greatestOf (map (λ e. e .setup) es)
@@ -54,10 +50,6 @@ joinEach held joined (c ∷ cs) = joinEach held (cond (among c held || among c j
 unfoldable pub allCompanions : List Held → List ℕ
 allCompanions [] = []
 allCompanions (h ∷ hs) = companionsOf (h .resource) ++ allCompanions hs
-
--- setup 0, unit 1
-abbrev pub companionEntry : ℕ → Entry
-companionEntry number = record { number = number; setup = 0; units = 1; companion = true }
 
 unfoldable pub companionEntries : List Held → List Entry
 companionEntries hs = map companionEntry (joinEach (numbersOf hs) [] (allCompanions hs))

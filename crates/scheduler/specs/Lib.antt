@@ -2,7 +2,9 @@
 pub mod Alone
 pub mod Choosing
 pub mod Plain
+pub mod Entries
 pub mod Fitting
+pub mod Rows
 pub mod Placing
 pub mod Alike
 pub mod Committing

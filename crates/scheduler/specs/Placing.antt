@@ -17,11 +17,18 @@ use Rattle.scheduler.specs.Alone.{Share, spanOf}
 use Rattle.scheduler.specs.Choosing.{Choice, noChoice, chosen, choosing}
 use Rattle.scheduler.specs.declared.Entry.{Entry}
 use Rattle.scheduler.specs.Fitting.{entriesOf, spanTogether, sharesOf, fitting, endOf}
+use Rattle.scheduler.specs.Rows.{rowOf}
 
--- what placing replies: a placement (choosing instant, start, end, entries), 'chosen, none' with the choosing instant, 'none', or a
--- refusal's number
+-- a placement: the choosing instant, the start and the end, and the entries
+pub record Placement : Type 0 where
+  pub choosing : ℕ
+  pub start : ℕ
+  pub end : ℕ
+  pub entries : List Entry
+
+-- what placing replies: a placement, 'chosen, none' with the choosing instant, 'none', or a refusal's number
 pub data Reply : Type 0 where
-  placed : ℕ → ℕ → ℕ → List Entry → Reply
+  placed : Placement → Reply
   chosenNone : ℕ → Reply
   none : Reply
   refused : ℕ → Reply
@@ -29,7 +36,7 @@ pub data Reply : Type 0 where
 -- no start: 'chosen, none'
 unfoldable pub ended : ℕ → ℕ → List Entry → Found → Reply
 ended t s es nothing = chosenNone t
-ended t s es (at e) = placed t s e es
+ended t s es (at e) = placed (record { choosing = t; start = s; end = e; entries = es })
 
 unfoldable pub started : Bool → List Share → Activity → ℕ → ℕ → List Entry → Found → Reply
 started resumable xs a span t es nothing = chosenNone t
@@ -67,27 +74,23 @@ placeRefusal b a ready slate =
 unfoldable pub placeReply : Board → Activity → ℕ → ℕ → Reply
 placeReply b a ready slate = refusedOr refused (placeRefusal b a ready slate) (placing b a (readyOf (a .release) ready))
 
--- an entry on the slate: number, setup, units, companion 0 or 1
-unfoldable pub rowOf : Entry → List ℕ
-rowOf e = e .number ∷ e .setup ∷ e .units ∷ cond (e .companion) 1 0 ∷ []
-
 -- a placement stands at the front of the slate, and nothing else is written
 unfoldable pub slateAfter : Reply → List (List ℕ) → List (List ℕ)
-slateAfter (placed t s e es) slate = map rowOf es ++ drop (length es) slate
+slateAfter (placed p) slate = map rowOf (p .entries) ++ drop (length (p .entries)) slate
 slateAfter (chosenNone t) slate = slate
 slateAfter none slate = slate
 slateAfter (refused n) slate = slate
 
 -- only a placement and 'chosen, none' have a choosing instant
 unfoldable pub choosingInstant : Reply → Found
-choosingInstant (placed t s e es) = at t
+choosingInstant (placed p) = at (p .choosing)
 choosingInstant (chosenNone t) = at t
 choosingInstant none = nothing
 choosingInstant (refused n) = nothing
 
 -- the number with which a reply refuses, nothing where it does not
 unfoldable pub refusalOf : Reply → Found
-refusalOf (placed t s e es) = nothing
+refusalOf (placed p) = nothing
 refusalOf (chosenNone t) = nothing
 refusalOf none = nothing
 refusalOf (refused n) = at n

@@ -1,7 +1,9 @@
 // Placing and committing (scheduler/simple.rs; 01, 'Placing'): the definitions, what they amount to, and demand 3 stand in specs/
 // (docs/READING.md leads through them). Here is what the crates that run them share.
 ghost use mathlib.Core.Path.{_≡_};
-ghost use Rattle.scheduler.specs.Placing.{rowOf};
+ghost use Rattle.scheduler.specs.Entries.{heldEntry, companionEntry, noEntry};
+
+pub mod rows;
 
 // A resource held (one of the Rust's `selections`), by its place on the board, with its start and the units wanted of it.
 pub struct Selection {
@@ -18,10 +20,38 @@ pub struct Entry {
     pub companion: bool,
 }
 
-// The row of an entry on a slate: number, setup, units, companion 0 or 1.
-pub fn row_of(e: Entry) -> [u64; 4]
-    ensures { λ r. ⌜ r ≡ rowOf e ⌝ }
+// The entry of a resource held.
+pub fn held_entry(number: u8, setup: u64, units: u32) -> Entry
+    ensures { λ r. ⌜ r ≡ heldEntry number setup units ⌝ }
 {
-    let companion: u64 = if e.companion { 1 } else { 0 };
-    [e.number as u64, e.setup, e.units as u64, companion]
+    Entry {
+        number: number,
+        setup: setup,
+        units: units,
+        companion: false,
+    }
+}
+
+// The entry of a companion: setup 0, unit 1.
+pub fn companion_entry(number: u8) -> Entry
+    ensures { λ r. ⌜ r ≡ companionEntry number ⌝ }
+{
+    Entry {
+        number: number,
+        setup: 0,
+        units: 1,
+        companion: true,
+    }
+}
+
+// What stands in a cell without an entry.
+pub fn no_entry() -> Entry
+    ensures { λ r. ⌜ r ≡ noEntry ⌝ }
+{
+    Entry {
+        number: 0,
+        setup: 0,
+        units: 0,
+        companion: false,
+    }
 }

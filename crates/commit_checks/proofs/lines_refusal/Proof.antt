@@ -6,7 +6,6 @@ use borrow.Author.Tests.{not-false}
 use mathlib.Core.Path.{sym, _∙_}
 use mathlib.Core.List.{[]}
 use lib.ListN.{getD}
-use Rattle.scheduler.specs.Committing.{linesOf}
 use Rattle.commit_checks.specs.Lines.{numbered}
 use Rattle.cells.specs.Laws.Every.{first-at}
 use Rattle.commit_checks.proofs.Rows.{number-is, numbers-lines, units-lines, room-lines}
@@ -19,40 +18,35 @@ returns : tie.Need-returns
 returns c b v known long =
     let a = c .before .before .args in
     let s = a .slate .now in
-    let ls = linesOf (a .count) s in
-    refused-off b ls (a .start) (a .end) (a .category) (check-failed (c .before .numbers-right .result) _ _ (c .before .numbers-right .ensures) (numbers-lines b v (a .places) known (a .count) s) (c .if1 .taken))
+    refused-off _ _ _ _ _ (check-failed (c .before .numbers-right .result) _ _ (c .before .numbers-right .ensures) (numbers-lines b v (a .places) known (a .count) s) (c .if1 .taken))
 
 returns-2 : tie.Need-returns-2
 returns-2 c b v known long =
     let a = c .before .before .before .args in
     let s = a .slate .now in
-    let ls = linesOf (a .count) s in
     let on = check-passed (c .before .before .numbers-right .result) _ _ (c .before .before .numbers-right .ensures) (numbers-lines b v (a .places) known (a .count) s) (c .before .if1 .left) in
-    refused-category b ls (a .start) (a .end) (a .category) on (c .if2 .taken)
+    refused-category _ _ _ _ _ on (c .if2 .taken)
 
 returns-3 : tie.Need-returns-3
 returns-3 c b v known long =
     let a = c .before .before .before .before .args in
     let s = a .slate .now in
-    let ls = linesOf (a .count) s in
     let on = check-passed (c .before .before .before .numbers-right .result) _ _ (c .before .before .before .numbers-right .ensures) (numbers-lines b v (a .places) known (a .count) s) (c .before .before .if1 .left) in
-    refused-start b ls (a .start) (a .end) (a .category) on (c .before .if2 .left) (c .if3 .taken)
+    refused-start _ _ _ _ _ on (c .before .if2 .left) (c .if3 .taken)
 
 returns-4 : tie.Need-returns-4
 returns-4 c b v known long =
     let a = c .before .before .before .before .before .args in
     let s = a .slate .now in
-    let ls = linesOf (a .count) s in
     let on = check-passed (c .before .before .before .before .numbers-right .result) _ _ (c .before .before .before .before .numbers-right .ensures) (numbers-lines b v (a .places) known (a .count) s) (c .before .before .before .if1 .left) in
-    refused-end b ls (a .start) (a .end) (a .category) on (c .before .before .if2 .left) (c .before .if3 .left) (c .if4 .taken)
+    refused-end _ _ _ _ _ on (c .before .before .if2 .left) (c .before .if3 .left) (c .if4 .taken)
 
 returns-5 : tie.Need-returns-5
 returns-5 c b v known long =
     let a = c .before .before .before .before .before .before .args in
     let s = a .slate .now in
-    let ls = linesOf (a .count) s in
     let on = check-passed (c .before .before .before .before .before .numbers-right .result) _ _ (c .before .before .before .before .before .numbers-right .ensures) (numbers-lines b v (a .places) known (a .count) s) (c .before .before .before .before .if1 .left) in
-    refused-order b ls (a .start) (a .end) (a .category) on (c .before .before .before .if2 .left) (c .before .before .if3 .left) (c .before .if4 .left) (c .if5 .taken)
+    refused-order _ _ _ _ _ on (c .before .before .before .if2 .left) (c .before .before .if3 .left) (c .before .if4 .left) (c .if5 .taken)
 
 units-right-requires : tie.Need-units-right-requires
 units-right-requires c κs = search needs
@@ -61,9 +55,8 @@ returns-6 : tie.Need-returns-6
 returns-6 c b v known long =
     let a = c .before .before .before .before .before .before .before .before .args in
     let s = a .slate .now in
-    let ls = linesOf (a .count) s in
     let on = check-passed (c .before .before .before .before .before .before .before .numbers-right .result) _ _ (c .before .before .before .before .before .before .before .numbers-right .ensures) (numbers-lines b v (a .places) known (a .count) s) (c .before .before .before .before .before .before .if1 .left) in
-    refused-units b ls (a .start) (a .end) (a .category) on (c .before .before .before .before .before .if2 .left) (c .before .before .before .before .if3 .left) (c .before .before .before .if4 .left) (c .before .before .if5 .left) (check-failed (c .before .units-right .result) _ _ (c .before .units-right .ensures) (units-lines (a .count) s) (c .if6 .taken))
+    refused-units _ _ _ _ _ on (c .before .before .before .before .before .if2 .left) (c .before .before .before .before .if3 .left) (c .before .before .before .if4 .left) (c .before .before .if5 .left) (check-failed (c .before .units-right .result) _ _ (c .before .units-right .ensures) (units-lines (a .count) s) (c .if6 .taken))
 
 tally-of-requires : tie.Need-tally-of-requires
 tally-of-requires c κs =
@@ -83,23 +76,21 @@ returns-7 : tie.Need-returns-7
 returns-7 c b v known long =
     let a = c .before .before .before .before .before .before .before .before .before .before .before .args in
     let s = a .slate .now in
-    let ls = linesOf (a .count) s in
     let on = check-passed (c .before .before .before .before .before .before .before .before .before .before .numbers-right .result) _ _ (c .before .before .before .before .before .before .before .before .before .before .numbers-right .ensures) (numbers-lines b v (a .places) known (a .count) s) (c .before .before .before .before .before .before .before .before .before .if1 .left) in
     let u = check-passed (c .before .before .before .before .units-right .result) _ _ (c .before .before .before .before .units-right .ensures) (units-lines (a .count) s) (c .before .before .before .if6 .left) in
     let numbers = sym (c .before .before .before .before .before .before .before .before .before .before .numbers-right .ensures) ∙ not-false _ (c .before .before .before .before .before .before .before .before .before .if1 .left) in
     let room = room-lines b v (a .places) known (a .lens) (c .before .before .tally-of .result) (a .count) s long (c .before .before .tally-of .ensures) numbers in
-    refused-room b ls (a .start) (a .end) (a .category) on (c .before .before .before .before .before .before .before .before .if2 .left) (c .before .before .before .before .before .before .before .if3 .left) (c .before .before .before .before .before .before .if4 .left) (c .before .before .before .before .before .if5 .left) u (check-failed (c .before .room-right .result) _ _ (c .before .room-right .ensures) room (c .if7 .taken))
+    refused-room _ _ _ _ _ on (c .before .before .before .before .before .before .before .before .if2 .left) (c .before .before .before .before .before .before .before .if3 .left) (c .before .before .before .before .before .before .if4 .left) (c .before .before .before .before .before .if5 .left) u (check-failed (c .before .room-right .result) _ _ (c .before .room-right .ensures) room (c .if7 .taken))
 
 returns-8 : tie.Need-returns-8
 returns-8 c b v known long =
     let a = c .before .before .before .before .before .before .before .before .before .before .before .args in
     let s = a .slate .now in
-    let ls = linesOf (a .count) s in
     let on = check-passed (c .before .before .before .before .before .before .before .before .before .before .numbers-right .result) _ _ (c .before .before .before .before .before .before .before .before .before .before .numbers-right .ensures) (numbers-lines b v (a .places) known (a .count) s) (c .before .before .before .before .before .before .before .before .before .if1 .left) in
     let u = check-passed (c .before .before .before .before .units-right .result) _ _ (c .before .before .before .before .units-right .ensures) (units-lines (a .count) s) (c .before .before .before .if6 .left) in
     let numbers = sym (c .before .before .before .before .before .before .before .before .before .before .numbers-right .ensures) ∙ not-false _ (c .before .before .before .before .before .before .before .before .before .if1 .left) in
     let room = room-lines b v (a .places) known (a .lens) (c .before .before .tally-of .result) (a .count) s long (c .before .before .tally-of .ensures) numbers in
-    refused-none b ls (a .start) (a .end) (a .category) on (c .before .before .before .before .before .before .before .before .if2 .left) (c .before .before .before .before .before .before .before .if3 .left) (c .before .before .before .before .before .before .if4 .left) (c .before .before .before .before .before .if5 .left) u (check-passed (c .before .room-right .result) _ _ (c .before .room-right .ensures) room (c .if7 .left))
+    refused-none _ _ _ _ _ on (c .before .before .before .before .before .before .before .before .if2 .left) (c .before .before .before .before .before .before .before .if3 .left) (c .before .before .before .before .before .before .if4 .left) (c .before .before .before .before .before .if5 .left) u (check-passed (c .before .room-right .result) _ _ (c .before .room-right .ensures) room (c .if7 .left))
 
 pub lines-refusal-spec : {M : Type 1} → statement M
 lines-refusal-spec =

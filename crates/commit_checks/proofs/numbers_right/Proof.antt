@@ -32,16 +32,16 @@ shared-slice-copy-out-row c =
     let l = c .loop-test .taken in
     omega (arith, v .0)
 
-array-read-number : tie.Need-array-read-number Inv-loop μ-loop
-array-read-number c = search needs
+number-in-requires : tie.Need-number-in-requires Inv-loop μ-loop
+number-in-requires c κs = search needs
 
 returns : tie.Need-returns Inv-loop μ-loop
 returns c =
-    let a = c .before .before .before .before .args in
-    let v = c .before .before .before .loop .inv in
-    let i = c .before .before .before .loop .i in
-    let l = c .before .before .loop-test .taken in
-    sym (every-off (numbered (a .t3)) [] (a .slate .now) i (a .count) l (v .0) (number-high (a .t3) (getD (a .slate .now) i []) (c .if1 .taken)))
+    let a = c .before .before .before .before .before .args in
+    let v = c .before .before .before .before .loop .inv in
+    let i = c .before .before .before .before .loop .i in
+    let l = c .before .before .before .loop-test .taken in
+    sym (every-off (numbered (a .t3)) [] (a .slate .now) i (a .count) l (v .0) (number-high (a .t3) (getD (a .slate .now) i []) (omega (arith, c .if1 .taken, c .before .number-in .ensures))))
 
 mul-if2 : tie.Need-mul-if2 Inv-loop μ-loop
 mul-if2 c = search needs
@@ -51,11 +51,11 @@ array-read-if2 c = search needs
 
 returns-2 : tie.Need-returns-2 Inv-loop μ-loop
 returns-2 c =
-    let a = c .before .before .before .before .before .args in
-    let v = c .before .before .before .before .loop .inv in
-    let i = c .before .before .before .before .loop .i in
-    let l = c .before .before .before .loop-test .taken in
-    sym (every-off (numbered (a .t3)) [] (a .slate .now) i (a .count) l (v .0) (number-off (a .t3) (getD (a .slate .now) i []) (c .if2 .taken)))
+    let a = c .before .before .before .before .before .before .args in
+    let v = c .before .before .before .before .before .loop .inv in
+    let i = c .before .before .before .before .before .loop .i in
+    let l = c .before .before .before .before .loop-test .taken in
+    sym (every-off (numbered (a .t3)) [] (a .slate .now) i (a .count) l (v .0) (number-off (a .t3) (getD (a .slate .now) i []) (rw (c .before .before .number-in .ensures) at (c .if2 .taken))))
 
 add-i : tie.Need-add-i Inv-loop μ-loop
 add-i c = search needs
@@ -65,11 +65,11 @@ loop-less c = search needs
 
 loop-again : tie.Need-loop-again Inv-loop μ-loop
 loop-again c =
-    let a = c .before .before .before .before .before .args in
-    let v = c .before .before .before .before .loop .inv in
-    let i = c .before .before .before .before .loop .i in
-    let l = c .before .before .before .loop-test .taken in
-    (v .0, omega arith, every-next (numbered (a .t3)) [] (a .slate .now) i (omega (arith, v .0)) (v .2) (number-on (a .t3) (getD (a .slate .now) i []) (c .before .if1 .left) (c .if2 .left)))
+    let a = c .before .before .before .before .before .before .args in
+    let v = c .before .before .before .before .before .loop .inv in
+    let i = c .before .before .before .before .before .loop .i in
+    let l = c .before .before .before .before .loop-test .taken in
+    (v .0, omega arith, every-next (numbered (a .t3)) [] (a .slate .now) i (omega (arith, v .0)) (v .2) (number-on (a .t3) (getD (a .slate .now) i []) (omega (arith, c .before .if1 .left, c .before .before .number-in .ensures)) (rw (c .before .before .number-in .ensures) at (c .if2 .left))))
 
 returns-3 : tie.Need-returns-3 Inv-loop μ-loop
 returns-3 c =
@@ -89,7 +89,7 @@ numbers-right-spec =
     loop-holds
     mul-row
     shared-slice-copy-out-row
-    array-read-number
+    number-in-requires
     returns
     mul-if2
     array-read-if2

@@ -2,7 +2,7 @@
 use borrow.Author.Needs.{needs}
 use mathlib.Core.Path.{_≡_, refl, sym}
 use mathlib.Core.Bool.{true}
-use Prim.Native.Nat.{_-_, _≤_}
+use Prim.Native.Nat.{_+_, _-_, _≤_, _<_}
 use native.Mathlib.Omega.{arith}
 use lib.ListN.{getD, take}
 use Rattle.commit_checks.proofs.room_right.Statement.{statement}
@@ -11,7 +11,7 @@ use Rattle.cells.specs.Every.{every}
 use Rattle.cells.specs.Laws.Every.{first-at, every-next, every-off}
 use Rattle.commit_checks.specs.Lines.{numbered, roomy}
 use mathlib.Core.List.{[]}
-use Rattle.commit_checks.proofs.Rows.{RowPlace, number-is, room-short, room-enough}
+use Rattle.commit_checks.proofs.Rows.{HasPlace, number-is, room-short, room-enough}
 
 abbrev Inv-loop : tie.InvT-loop
 Inv-loop slate count places lens tally i₀ i = (i ≤ count) × (every (roomy places lens tally) (take i slate) ≡ true)
@@ -29,44 +29,47 @@ mul-row c = search needs
 shared-slice-copy-out-row : tie.Need-shared-slice-copy-out-row Inv-loop μ-loop
 shared-slice-copy-out-row c = omega (arith, c .loop-test .taken, c .before .before .pre .0 .0)
 
+number-in-requires : tie.Need-number-in-requires Inv-loop μ-loop
+number-in-requires c κs = search needs
+
 -- row i names a number that has a place, whose diary holds at most 64 bookings
-here : (c : tie.In-loop Inv-loop μ-loop) → RowPlace (c .before .before .args .t3) (c .before .before .args .t4) (getD (c .before .before .args .slate .now) (c .before .loop .i) [])
+here : (c : tie.After-number-in Inv-loop μ-loop) → HasPlace (c .before .before .before .before .args .t3) (c .before .before .before .before .args .t4) (c .number-in .result)
 here c =
-    let a = c .before .before .args in
-    let p = c .before .before .pre in
-    let w = number-is (a .t3) (getD (a .slate .now) (c .before .loop .i) []) (first-at (numbered (a .t3)) [] (a .count) (a .slate .now) (p .0 .0) (p .0 .1) (c .before .loop .i) (c .loop-test .taken)) in
-    (w .0, w .1, p .1 _ (w .1))
-
-array-read-number : tie.Need-array-read-number Inv-loop μ-loop
-array-read-number c = search needs
-
-mul-place : tie.Need-mul-place Inv-loop μ-loop
-mul-place c = let h = here (c .before) in search needs
-
-array-read-place : tie.Need-array-read-place Inv-loop μ-loop
-array-read-place c = let h = here (c .before) in search needs
-
-mul-if1 : tie.Need-mul-if1 Inv-loop μ-loop
-mul-if1 c = let h = here (c .before) in search needs
-
-array-read-if1 : tie.Need-array-read-if1 Inv-loop μ-loop
-array-read-if1 c = let h = here (c .before) in search needs
-
-mul-if1-2 : tie.Need-mul-if1-2 Inv-loop μ-loop
-mul-if1-2 c = let h = here (c .before) in search needs
-
-array-read-if1-2 : tie.Need-array-read-if1-2 Inv-loop μ-loop
-array-read-if1-2 c = let h = here (c .before) in search needs
-
-sub-if1 : tie.Need-sub-if1 Inv-loop μ-loop
-sub-if1 c = let h = here (c .before) in search needs
-
-returns : tie.Need-returns Inv-loop μ-loop
-returns c =
     let a = c .before .before .before .before .args in
     let p = c .before .before .before .before .pre in
     let i = c .before .before .before .loop .i in
-    sym (every-off (roomy (a .t3) (a .t4) (a .t5)) [] (a .slate .now) i (a .count) (c .before .before .loop-test .taken) (p .0 .0) (room-short (a .t3) (a .t4) (a .t5) (getD (a .slate .now) i []) (omega (arith, c .if1 .taken, here (c .before .before) .2))))
+    let w = number-is (a .t3) (getD (a .slate .now) i []) (first-at (numbered (a .t3)) [] (a .count) (a .slate .now) (p .0 .0) (p .0 .1) i (c .before .before .loop-test .taken)) in
+    rw (c .number-in .ensures) (w .0, w .1, p .1 _ (w .1))
+
+mul-place : tie.Need-mul-place Inv-loop μ-loop
+mul-place c = let h = here c in search needs
+
+array-read-place : tie.Need-array-read-place Inv-loop μ-loop
+array-read-place c = let h = here c in search needs
+
+mul-if1 : tie.Need-mul-if1 Inv-loop μ-loop
+mul-if1 c = let h = here c in search needs
+
+array-read-if1 : tie.Need-array-read-if1 Inv-loop μ-loop
+array-read-if1 c = let h = here c in search needs
+
+mul-if1-2 : tie.Need-mul-if1-2 Inv-loop μ-loop
+mul-if1-2 c = let h = here c in search needs
+
+array-read-if1-2 : tie.Need-array-read-if1-2 Inv-loop μ-loop
+array-read-if1-2 c = let h = here c in search needs
+
+sub-if1 : tie.Need-sub-if1 Inv-loop μ-loop
+sub-if1 c = let h = here c in search needs
+
+returns : tie.Need-returns Inv-loop μ-loop
+returns c =
+    let a = c .before .before .before .before .before .args in
+    let p = c .before .before .before .before .before .pre in
+    let i = c .before .before .before .before .loop .i in
+    let n = c .before .number-in .result in
+    let short : 64 < getD (a .t4) (getD (a .t3) n 0) 0 + getD (a .t5) n 0 = omega (arith, c .if1 .taken, here (c .before) .2) in
+    sym (every-off (roomy (a .t3) (a .t4) (a .t5)) [] (a .slate .now) i (a .count) (c .before .before .before .loop-test .taken) (p .0 .0) (room-short (a .t3) (a .t4) (a .t5) (getD (a .slate .now) i []) (rw (c .before .number-in .ensures) at short)))
 
 add-i : tie.Need-add-i Inv-loop μ-loop
 add-i c = search needs
@@ -76,10 +79,12 @@ loop-less c = search needs
 
 loop-again : tie.Need-loop-again Inv-loop μ-loop
 loop-again c =
-    let a = c .before .before .before .before .args in
-    let p = c .before .before .before .before .pre in
-    let i = c .before .before .before .loop .i in
-    (omega arith, every-next (roomy (a .t3) (a .t4) (a .t5)) [] (a .slate .now) i (omega (arith, p .0 .0)) (c .before .before .before .loop .inv .1) (room-enough (a .t3) (a .t4) (a .t5) (getD (a .slate .now) i []) (omega (arith, c .if1 .left, here (c .before .before) .2))))
+    let a = c .before .before .before .before .before .args in
+    let p = c .before .before .before .before .before .pre in
+    let i = c .before .before .before .before .loop .i in
+    let n = c .before .number-in .result in
+    let enough : getD (a .t4) (getD (a .t3) n 0) 0 + getD (a .t5) n 0 ≤ 64 = omega (arith, c .if1 .left, here (c .before) .2) in
+    (omega arith, every-next (roomy (a .t3) (a .t4) (a .t5)) [] (a .slate .now) i (omega (arith, p .0 .0)) (c .before .before .before .before .loop .inv .1) (room-enough (a .t3) (a .t4) (a .t5) (getD (a .slate .now) i []) (rw (c .before .number-in .ensures) at enough)))
 
 returns-2 : tie.Need-returns-2 Inv-loop μ-loop
 returns-2 c =
@@ -99,7 +104,7 @@ room-right-spec =
     loop-holds
     mul-row
     shared-slice-copy-out-row
-    array-read-number
+    number-in-requires
     mul-place
     array-read-place
     mul-if1

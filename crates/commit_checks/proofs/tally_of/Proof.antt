@@ -7,7 +7,6 @@ use lib.ListN.{length, getD, length-set}
 use Rattle.commit_checks.proofs.tally_of.Statement.{statement}
 use Rattle.commit_checks.proofs.tally_of.Tie as tie
 use Rattle.commit_checks.specs.Lines.{Counted}
-use mathlib.Core.List.{[]}
 use Rattle.commit_checks.proofs.Rows.{counted-none, counted-next, entries-few}
 
 abbrev Inv-loop : tie.InvT-loop
@@ -25,30 +24,31 @@ mul-row c = search needs
 shared-slice-copy-out-row : tie.Need-shared-slice-copy-out-row Inv-loop μ-loop
 shared-slice-copy-out-row c = omega (arith, c .loop-test .taken, c .before .before .pre .0)
 
--- row i names a number below 16
-low : (c : tie.In-loop Inv-loop μ-loop) → getD (getD (c .before .before .args .slate .now) (c .before .loop .i) []) 0 0 < 16
-low c = c .before .before .pre .1 (c .before .loop .i) (c .loop-test .taken)
+number-in-requires : tie.Need-number-in-requires Inv-loop μ-loop
+number-in-requires c κs = search needs
 
-array-read-number : tie.Need-array-read-number Inv-loop μ-loop
-array-read-number c = search needs
+-- row i names a number below 16
+low : (c : tie.After-number-in Inv-loop μ-loop) → c .number-in .result < 16
+low c = rw (c .number-in .ensures) (c .before .before .before .before .pre .1 (c .before .before .before .loop .i) (c .before .before .loop-test .taken))
 
 mul-tally : tie.Need-mul-tally Inv-loop μ-loop
-mul-tally c = let w = low (c .before) in search needs
+mul-tally c = let w = low c in search needs
 
 array-read-tally : tie.Need-array-read-tally Inv-loop μ-loop
-array-read-tally c = let w = low (c .before) in search needs
+array-read-tally c = let w = low c in search needs
 
 add-tally : tie.Need-add-tally Inv-loop μ-loop
 add-tally c =
-    let a = c .before .before .before .args in
-    let v = c .before .before .loop .inv in
-    let i = c .before .before .loop .i in
-    let w = low (c .before) in
-    let small : getD (c .before .before .loop .tally) (getD (getD (a .slate .now) i []) 0 0) 0 ≤ i = rw (v .2 (getD (getD (a .slate .now) i []) 0 0) w) (entries-few (getD (getD (a .slate .now) i []) 0 0) i (a .slate .now)) in
+    let a = c .before .before .before .before .args in
+    let v = c .before .before .before .loop .inv in
+    let i = c .before .before .before .loop .i in
+    let w = low c in
+    let n = c .number-in .result in
+    let small : getD (c .before .before .before .loop .tally) n 0 ≤ i = rw (v .2 n w) (entries-few n i (a .slate .now)) in
     search needs
 
 array-write-tally : tie.Need-array-write-tally Inv-loop μ-loop
-array-write-tally c = let w = low (c .before) in search needs
+array-write-tally c = let w = low c in search needs
 
 add-i : tie.Need-add-i Inv-loop μ-loop
 add-i c = search needs
@@ -58,12 +58,12 @@ loop-less c = search needs
 
 loop-again : tie.Need-loop-again Inv-loop μ-loop
 loop-again c =
-    let a = c .before .before .before .args in
-    let p = c .before .before .before .pre in
-    let v = c .before .before .loop .inv in
-    let i = c .before .before .loop .i in
-    let l = c .before .loop-test .taken in
-    (omega arith, length-set (c .before .before .loop .tally) _ _ ∙ v .1, counted-next (a .slate .now) i (c .before .before .loop .tally) (v .1) (omega (arith, p .0)) (p .1 i l) (v .2))
+    let a = c .before .before .before .before .args in
+    let p = c .before .before .before .before .pre in
+    let v = c .before .before .before .loop .inv in
+    let i = c .before .before .before .loop .i in
+    let l = c .before .before .loop-test .taken in
+    (omega arith, length-set (c .before .before .before .loop .tally) _ _ ∙ v .1, rw (c .number-in .ensures) (counted-next (a .slate .now) i (c .before .before .before .loop .tally) (v .1) (omega (arith, p .0)) (p .1 i l) (v .2)))
 
 returns : tie.Need-returns Inv-loop μ-loop
 returns c =
@@ -83,7 +83,7 @@ tally-of-spec =
     loop-holds
     mul-row
     shared-slice-copy-out-row
-    array-read-number
+    number-in-requires
     mul-tally
     array-read-tally
     add-tally

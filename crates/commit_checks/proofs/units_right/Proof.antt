@@ -32,24 +32,24 @@ shared-slice-copy-out-row c =
     let l = c .loop-test .taken in
     omega (arith, v .0)
 
-array-read-units : tie.Need-array-read-units Inv-loop μ-loop
-array-read-units c = search needs
+units-in-requires : tie.Need-units-in-requires Inv-loop μ-loop
+units-in-requires c κs = search needs
 
 returns : tie.Need-returns Inv-loop μ-loop
 returns c =
-    let a = c .before .before .before .before .args in
-    let v = c .before .before .before .loop .inv in
-    let i = c .before .before .before .loop .i in
-    let l = c .before .before .loop-test .taken in
-    sym (every-off metered [] (a .slate .now) i (a .count) l (v .0) (units-none (getD (a .slate .now) i []) (c .if1 .taken)))
-
-returns-2 : tie.Need-returns-2 Inv-loop μ-loop
-returns-2 c =
     let a = c .before .before .before .before .before .args in
     let v = c .before .before .before .before .loop .inv in
     let i = c .before .before .before .before .loop .i in
     let l = c .before .before .before .loop-test .taken in
-    sym (every-off metered [] (a .slate .now) i (a .count) l (v .0) (units-many (getD (a .slate .now) i []) (c .if2 .taken)))
+    sym (every-off metered [] (a .slate .now) i (a .count) l (v .0) (units-none (getD (a .slate .now) i []) (omega (arith, c .if1 .taken, c .before .units-in .ensures))))
+
+returns-2 : tie.Need-returns-2 Inv-loop μ-loop
+returns-2 c =
+    let a = c .before .before .before .before .before .before .args in
+    let v = c .before .before .before .before .before .loop .inv in
+    let i = c .before .before .before .before .before .loop .i in
+    let l = c .before .before .before .before .loop-test .taken in
+    sym (every-off metered [] (a .slate .now) i (a .count) l (v .0) (units-many (getD (a .slate .now) i []) (omega (arith, c .if2 .taken, c .before .before .units-in .ensures))))
 
 add-i : tie.Need-add-i Inv-loop μ-loop
 add-i c = search needs
@@ -59,11 +59,11 @@ loop-less c = search needs
 
 loop-again : tie.Need-loop-again Inv-loop μ-loop
 loop-again c =
-    let a = c .before .before .before .before .before .args in
-    let v = c .before .before .before .before .loop .inv in
-    let i = c .before .before .before .before .loop .i in
-    let l = c .before .before .before .loop-test .taken in
-    (v .0, omega arith, every-next metered [] (a .slate .now) i (omega (arith, v .0)) (v .2) (units-fine (getD (a .slate .now) i []) (c .before .if1 .left) (c .if2 .left)))
+    let a = c .before .before .before .before .before .before .args in
+    let v = c .before .before .before .before .before .loop .inv in
+    let i = c .before .before .before .before .before .loop .i in
+    let l = c .before .before .before .before .loop-test .taken in
+    (v .0, omega arith, every-next metered [] (a .slate .now) i (omega (arith, v .0)) (v .2) (units-fine (getD (a .slate .now) i []) (omega (arith, c .before .if1 .left, c .before .before .units-in .ensures)) (omega (arith, c .if2 .left, c .before .before .units-in .ensures))))
 
 returns-3 : tie.Need-returns-3 Inv-loop μ-loop
 returns-3 c =
@@ -83,7 +83,7 @@ units-right-spec =
     loop-holds
     mul-row
     shared-slice-copy-out-row
-    array-read-units
+    units-in-requires
     returns
     returns-2
     add-i

@@ -6,7 +6,7 @@ use borrow.Author.Tests.{not-true, not-false}
 use mathlib.Core.Path.{_≡_, ap, _∙_}
 use Rattle.timeline.specs.declared.Booked.{Booked}
 use Rattle.timeline.specs.Book.{withBooking}
-use Rattle.scheduler.specs.Committing.{Line}
+use Rattle.scheduler.specs.Committing.{lineWith}
 use Rattle.committing.proofs.Ahead.{book-taken, booked-category, booked-companion, booked-plain}
 
 book-requires : tie.Need-book-requires
@@ -18,7 +18,7 @@ returns c =
     let p = c .before .before .before .before .before .before .before .pre in
     let t = c .before .before .before .before .before .book .result .timeline in
     let e : t ≡ withBooking (a .r .timeline) (a .start) (a .end) (a .units) = ap (λ (x : Booked). x .timeline) (c .before .before .before .before .before .book .ensures .0) ∙ book-taken (a .r .timeline) (a .start) (a .end) (a .category) (a .units) (p .0) (p .1) (p .2) (p .3 .0) (p .3 .1) in
-    let m : Line = record { number = a .r .number; units = a .units; companion = a .companion } in
+    let m = lineWith (a .r .number) (a .units) (a .companion) in
     booked-category (a .r) t (a .start) (a .end) (a .category) m e (c .before .if1 .taken) (not-true (a .companion) (c .if2 .taken))
 
 returns-2 : tie.Need-returns-2
@@ -27,7 +27,7 @@ returns-2 c =
     let p = c .before .before .before .before .before .before .before .pre in
     let t = c .before .before .before .before .before .book .result .timeline in
     let e : t ≡ withBooking (a .r .timeline) (a .start) (a .end) (a .units) = ap (λ (x : Booked). x .timeline) (c .before .before .before .before .before .book .ensures .0) ∙ book-taken (a .r .timeline) (a .start) (a .end) (a .category) (a .units) (p .0) (p .1) (p .2) (p .3 .0) (p .3 .1) in
-    let m : Line = record { number = a .r .number; units = a .units; companion = a .companion } in
+    let m = lineWith (a .r .number) (a .units) (a .companion) in
     booked-companion (a .r) t (a .start) (a .end) (a .category) m e (not-false (a .companion) (c .if2 .left)) (c .before .if1 .taken)
 
 returns-3 : tie.Need-returns-3
@@ -36,7 +36,7 @@ returns-3 c =
     let p = c .before .before .before .before .before .before .pre in
     let t = c .before .before .before .before .book .result .timeline in
     let e : t ≡ withBooking (a .r .timeline) (a .start) (a .end) (a .units) = ap (λ (x : Booked). x .timeline) (c .before .before .before .before .book .ensures .0) ∙ book-taken (a .r .timeline) (a .start) (a .end) (a .category) (a .units) (p .0) (p .1) (p .2) (p .3 .0) (p .3 .1) in
-    let m : Line = record { number = a .r .number; units = a .units; companion = a .companion } in
+    let m = lineWith (a .r .number) (a .units) (a .companion) in
     booked-plain (a .r) t (a .start) (a .end) (a .category) m e (c .if1 .left)
 
 pub book-on-spec : {M : Type 1} → statement M

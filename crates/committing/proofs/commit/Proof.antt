@@ -1,18 +1,18 @@
--- `committing::commit` meets its contract. The loop: booking the lines left makes the whole (Ahead).
+-- `committing::commit` meets its contract. The loop: booking the rows left makes the whole (Ahead).
 use borrow.Author.Needs.{needs}
-use mathlib.Core.Path.{_≡_, refl, sym, _∙_}
-use Prim.Native.Nat.{_-_, _≤_, _<_}
+use mathlib.Core.Path.{sym, _∙_}
+use Prim.Native.Nat.{_-_, _≤_}
 use native.Mathlib.Omega.{arith}
-use lib.ListN.{length, getD, drop, length-map}
+use lib.ListN.{getD, length-map}
 use mathlib.Core.List.{[]}
 use Rattle.committing.proofs.commit.Statement.{statement}
 use Rattle.committing.proofs.commit.Tie as tie
-use Rattle.scheduler.specs.Committing.{linesOf, bookAll, Bookable}
+use Rattle.scheduler.specs.Rows.{unitsIn}
 use Rattle.commit_checks.proofs.Refusing.{fine, reply-refused, reply-taken}
-use Rattle.committing.proofs.Ahead.{Ahead, RowHere, ahead-none, lines-none, row-here, row-next}
+use Rattle.committing.proofs.Ahead.{Here, Left, left-all, left-none, left-bookable, row-here, row-next}
 
 abbrev Inv-loop : tie.InvT-loop
-Inv-loop slate count start end category refusal places board₀ i₀ board i = (i ≤ count) × (count ≤ length slate) × (0 < count → Bookable start end category) × Ahead start end category places (bookAll start end category (linesOf count slate) board₀) board (linesOf (count - i) (drop i slate))
+Inv-loop slate count start end category refusal places board₀ i₀ board i = (i ≤ count) × Left (record { board = board₀; slate = slate; count = count; start = start; end = end; category = category }) places board i
 
 abbrev μ-loop : tie.MeasureT-loop
 μ-loop slate count start end category refusal places board₀ i₀ board i = count - i
@@ -25,15 +25,13 @@ commit-refusal-requires c κs = λ e. c .places-of .ensures .1 (sym (c .places-o
 
 returns : tie.Need-returns Inv-loop μ-loop
 returns c =
-    let a = c .before .before .before .args in
-    reply-refused (a .b) (a .slate .now) (a .count) (a .start) (a .end) (a .category) (c .before .commit-refusal .result) (c .before .commit-refusal .ensures (a .b) (c .before .before .places-of .ensures .0) (λ v. let k = c .before .before .places-of .ensures .1 v in (k .0, k .1))) (c .if1 .taken)
+    reply-refused _ _ (c .before .commit-refusal .ensures _ (c .before .before .places-of .ensures .0) (λ v. let k = c .before .before .places-of .ensures .1 v in (k .0, k .1))) (c .if1 .taken)
 
 loop-holds : tie.Need-loop-holds Inv-loop μ-loop
 loop-holds c =
-    let a = c .before .before .before .before .args in
-    let f = fine (a .b) (a .slate .now) (a .count) (a .start) (a .end) (a .category) (c .before .before .commit-refusal .result) (c .before .before .commit-refusal .ensures (a .b) (c .before .before .before .places-of .ensures .0) (λ v. let k = c .before .before .before .places-of .ensures .1 v in (k .0, k .1))) (c .before .if1 .left) in
-    let z : a .count - 0 ≡ a .count = omega arith in
-    (omega arith, f .enough, f .bookable, rw z (record { long = simp length-map at (c .before .before .before .before .good .0 .1 .1 .0 .1 .0 .1); valid = f .valid; known = c .before .before .before .places-of .ensures .1 (f .valid) .0; right = f .right; room = f .room; same = refl }))
+    let p = c .before .before .before .places-of .ensures in
+    let f = fine _ _ (c .before .before .commit-refusal .ensures _ (p .0) (λ v. let k = p .1 v in (k .0, k .1))) (c .before .if1 .left) in
+    (omega arith, left-all _ _ (simp length-map at (c .before .before .before .before .good .0 .1 .1 .0 .1 .0 .1)) (p .1 (f .valid) .0) f)
 
 mul-row : tie.Need-mul-row Inv-loop μ-loop
 mul-row c = search needs
@@ -42,51 +40,47 @@ shared-slice-copy-out-row : tie.Need-shared-slice-copy-out-row Inv-loop μ-loop
 shared-slice-copy-out-row c =
     let v = c .before .loop .inv in
     let l = c .loop-test .taken in
-    omega (arith, v .1)
+    omega (arith, v .1 .enough)
+
+number-in-requires : tie.Need-number-in-requires Inv-loop μ-loop
+number-in-requires c κs = search needs
 
 -- the diary that row i names takes its booking
-here : (c : tie.In-loop Inv-loop μ-loop) → RowHere (c .before .loop .board) (c .before .before .before .before .before .places-of .result .places) (getD (c .before .before .before .before .before .before .args .slate .now) (c .before .loop .i) [])
-here c =
-    let a = c .before .before .before .before .before .before .args in
-    let v = c .before .loop .inv in
-    row-here (a .start) (a .end) (a .category) _ (bookAll (a .start) (a .end) (a .category) (linesOf (a .count) (a .slate .now)) (a .b)) (c .before .loop .board) (a .slate .now) (c .before .loop .i) (a .count) (c .loop-test .taken) (v .1) (v .3)
-
-array-read-number : tie.Need-array-read-number Inv-loop μ-loop
-array-read-number c = search needs
+here : (c : tie.After-number-in Inv-loop μ-loop) → Here (c .before .before .before .loop .board) (c .number-in .result) (getD (c .before .before .before .before .before .before .before .places-of .result .places) (c .number-in .result) 0) (unitsIn (getD (c .before .before .before .before .before .before .before .before .args .slate .now) (c .before .before .before .loop .i) []))
+here c = row-here _ _ _ _ (c .before .before .before .loop .inv .1) (c .before .before .loop-test .taken) _ (c .number-in .ensures)
 
 mul-place : tie.Need-mul-place Inv-loop μ-loop
-mul-place c = let h = here (c .before) in search needs
+mul-place c = let h = here c in search needs
 
 array-read-place : tie.Need-array-read-place Inv-loop μ-loop
-array-read-place c = let h = here (c .before) in search needs
+array-read-place c = let h = here c in search needs
 
 mul-r : tie.Need-mul-r Inv-loop μ-loop
-mul-r c = let h = here (c .before) in search needs
+mul-r c = let h = here c in search needs
 
 element-copy-out-r : tie.Need-element-copy-out-r Inv-loop μ-loop
-element-copy-out-r c = let h = here (c .before) in search needs
+element-copy-out-r c = let h = here c in search needs
 
-array-read-book-on : tie.Need-array-read-book-on Inv-loop μ-loop
-array-read-book-on c = search needs
+units-in-requires : tie.Need-units-in-requires Inv-loop μ-loop
+units-in-requires c κs = search needs
 
 cast-book-on : tie.Need-cast-book-on Inv-loop μ-loop
-cast-book-on c = omega (arith, here (c .before .before) .few)
+cast-book-on c = omega (arith, here (c .before .before) .few, c .units-in .ensures)
 
-array-read-book-on-2 : tie.Need-array-read-book-on-2 Inv-loop μ-loop
-array-read-book-on-2 c = search needs
+is-companion-requires : tie.Need-is-companion-requires Inv-loop μ-loop
+is-companion-requires c κs = search needs
 
 book-on-requires : tie.Need-book-on-requires Inv-loop μ-loop
 book-on-requires c κs =
-    let h = here (c .before .before) in
-    let v = c .before .before .before .loop .inv in
-    let l = c .before .before .loop-test .taken in
-    (h .kept, h .free, v .2 (omega (arith, l)), (h .some, h .few))
+    let h = here (c .before .before .before) in
+    let u = c .before .units-in .ensures in
+    (h .kept, h .free, left-bookable _ _ _ _ (c .before .before .before .before .before .before .loop .inv .1) (c .before .before .before .before .before .loop-test .taken), (omega (arith, u, h .some), omega (arith, u, h .few)))
 
 mul-x : tie.Need-mul-x Inv-loop μ-loop
-mul-x c = let h = here (c .before .before .before) in omega (arith, h .place-low, h .low)
+mul-x c = let h = here (c .before .before .before .before) in omega (arith, h .place-low, h .low)
 
 element-set-from-x : tie.Need-element-set-from-x Inv-loop μ-loop
-element-set-from-x c = let h = here (c .before .before .before) in omega (arith, h .place-low, h .low)
+element-set-from-x c = let h = here (c .before .before .before .before) in omega (arith, h .place-low, h .low)
 
 add-i : tie.Need-add-i Inv-loop μ-loop
 add-i c = search needs
@@ -96,24 +90,13 @@ loop-less c = search needs
 
 loop-again : tie.Need-loop-again Inv-loop μ-loop
 loop-again c =
-    let a = c .before .before .before .before .before .before .before .before .before .args in
-    let places = c .before .before .before .before .before .before .before .before .places-of .result .places in
-    let v = c .before .before .before .before .loop .inv in
-    let i = c .before .before .before .before .loop .i in
-    let l = c .before .before .before .loop-test .taken in
-    let n = c .before .before .before .before .loop .board in
-    let whole = bookAll (a .start) (a .end) (a .category) (linesOf (a .count) (a .slate .now)) (a .b) in
-    (omega arith, v .1, v .2, row-next (a .start) (a .end) (a .category) places whole n (a .slate .now) i (a .count) l (v .1) (v .3) (v .2 (omega (arith, l))) (c .book-on .result) _ (c .book-on .ensures))
+    let v = c .before .before .before .before .before .before .before .loop .inv in
+    (omega arith, row-next _ _ _ _ (v .1) (c .before .before .before .before .before .before .loop-test .taken) _ (c .before .before .before .before .number-in .ensures) _ _ (c .before .before .units-in .ensures) (c .before .is-companion .ensures) (c .book-on .result) _ (c .book-on .ensures))
 
 returns-2 : tie.Need-returns-2 Inv-loop μ-loop
 returns-2 c =
-    let a = c .before .before .before .before .before .before .args in
-    let places = c .before .before .before .before .before .places-of .result .places in
-    let v = c .before .loop .inv in
-    let i = c .before .loop .i in
-    let l = c .loop-test .left in
-    let whole = ahead-none (a .start) (a .end) (a .category) places _ (c .before .loop .board) _ (lines-none (a .slate .now) i (a .count) (omega arith)) (v .3) in
-    reply-taken (a .b) (a .slate .now) (a .count) (a .start) (a .end) (a .category) (c .before .loop .board) (c .before .before .before .before .commit-refusal .result) (c .before .before .before .before .commit-refusal .ensures (a .b) (c .before .before .before .before .before .places-of .ensures .0) (λ v. let k = c .before .before .before .before .before .places-of .ensures .1 v in (k .0, k .1))) (c .before .before .before .if1 .left) whole
+    let p = c .before .before .before .before .before .places-of .ensures in
+    reply-taken _ _ _ (c .before .before .before .before .commit-refusal .ensures _ (p .0) (λ v. let k = p .1 v in (k .0, k .1))) (c .before .before .before .if1 .left) (left-none _ _ _ _ (c .before .loop .inv .1) (c .loop-test .left))
 
 pub commit-spec : {M : Type 1} → statement M
 commit-spec =
@@ -127,14 +110,14 @@ commit-spec =
     loop-holds
     mul-row
     shared-slice-copy-out-row
-    array-read-number
+    number-in-requires
     mul-place
     array-read-place
     mul-r
     element-copy-out-r
-    array-read-book-on
+    units-in-requires
     cast-book-on
-    array-read-book-on-2
+    is-companion-requires
     book-on-requires
     mul-x
     element-set-from-x

@@ -8,17 +8,17 @@ use Rattle.commit_checks.proofs.Refusing.{refusal-rules, refusal-none, refusal-
 returns : tie.Need-returns
 returns c b e f =
     let a = c .before .before .args in
-    refusal-rules b (a .slate .now) (a .count) (a .start) (a .end) (a .category) (sym e ∙ not-true _ (c .if1 .taken))
+    refusal-rules _ (sym e ∙ not-true _ (c .if1 .taken))
 
 returns-2 : tie.Need-returns-2
 returns-2 c b e f =
     let a = c .before .before .before .args in
-    refusal-none b (a .slate .now) (a .count) (a .start) (a .end) (a .category) (sym e ∙ not-false _ (c .before .if1 .left)) (c .if2 .taken)
+    refusal-none _ (sym e ∙ not-false _ (c .before .if1 .left)) (c .if2 .taken)
 
 returns-3 : tie.Need-returns-3
 returns-3 c b e f =
     let a = c .before .before .before .before .args in
-    refusal-count b (a .slate .now) (a .count) (a .start) (a .end) (a .category) (sym e ∙ not-false _ (c .before .before .if1 .left)) (ne-eqb (a .count) 0 (c .before .if2 .left)) (c .if3 .taken)
+    refusal-count _ (sym e ∙ not-false _ (c .before .before .if1 .left)) (ne-eqb (a .count) 0 (c .before .if2 .left)) (c .if3 .taken)
 
 lines-refusal-requires : tie.Need-lines-refusal-requires
 lines-refusal-requires c κs = (c .before .before .if3 .left, c .before .before .before .before .before .before .pre (not-false _ (c .before .before .before .before .if1 .left)))
@@ -28,7 +28,7 @@ returns-4 c b e f =
     let a = c .before .before .before .before .before .before .before .args in
     let v = sym e ∙ not-false _ (c .before .before .before .before .before .if1 .left) in
     let w = f v in
-    c .lines-refusal .ensures b v (w .0) (w .1) ∙ refusal-lines b (a .slate .now) (a .count) (a .start) (a .end) (a .category) v (ne-eqb (a .count) 0 (c .before .before .before .before .if2 .left)) (c .before .before .before .if3 .left)
+    c .lines-refusal .ensures b v (w .0) (w .1) ∙ refusal-lines _ v (ne-eqb (a .count) 0 (c .before .before .before .before .if2 .left)) (c .before .before .before .if3 .left)
 
 pub commit-refusal-spec : {M : Type 1} → statement M
 commit-refusal-spec = tie.close (tie.spec returns returns-2 returns-3 lines-refusal-requires returns-4)

@@ -9,14 +9,14 @@ use borrow.Author.Needs.{needs}
 use lib.ListN.{length, getD, length-set}
 use Rattle.scheduler.specs.Selections.{noSelection}
 use Rattle.cells.specs.Laws.Basics.{filled-next}
-use Rattle.place_entries.specs.Cells.{noEntry}
+use Rattle.scheduler.specs.Entries.{heldEntry, noEntry}
 use Rattle.place_entries.specs.Parts.{setupAt}
 use mathlib.Core.Logic.{⊎-elim}
 use Rattle.place_entries.proofs.Parting.{entry-kept, kept-true, kept-false}
 
 abbrev Inv-loop : tie.InvT-loop
 Inv-loop count own held numbers matrices setups e₀ i₀ e i = (i ≤ count) × (length (e .entries) ≡ 24)
-    × ((k : ℕ) → k < i → getD (e .entries) k noEntry ≡ record { number = getD numbers k 0; setup = cond (getD matrices k false) (getD setups k 0) own; units = getD held k noSelection .usage; companion = false })
+    × ((k : ℕ) → k < i → getD (e .entries) k noEntry ≡ heldEntry (getD numbers k 0) (cond (getD matrices k false) (getD setups k 0) own) (getD held k noSelection .usage))
 
 abbrev μ-loop : tie.MeasureT-loop
 μ-loop count own held numbers matrices setups e₀ i₀ e i = count - i
@@ -42,8 +42,11 @@ mul-setup c = search needs
 array-read-setup : tie.Need-array-read-setup Inv-loop μ-loop
 array-read-setup c = search needs
 
-array-read-t29 : tie.Need-array-read-t29 Inv-loop μ-loop
-array-read-t29 c = search needs
+array-read-held-entry : tie.Need-array-read-held-entry Inv-loop μ-loop
+array-read-held-entry c = search needs
+
+held-entry-requires : tie.Need-held-entry-requires Inv-loop μ-loop
+held-entry-requires c κs = search needs
 
 mul-t15 : tie.Need-mul-t15 Inv-loop μ-loop
 mul-t15 c = search needs
@@ -59,11 +62,11 @@ loop-less c = search needs
 
 loop-again : tie.Need-loop-again Inv-loop μ-loop
 loop-again c =
-    let v = c .before .before .before .loop .inv in
-    let l = c .before .before .loop-test .taken in
-    let a = c .before .before .before .before .before .before .before .before .args in
-    let i = c .before .before .before .loop .i in
-    (omega arith, length-set (c .before .before .before .loop .e .entries) i _ ∙ v .1, filled-next (setupAt (a .p) (a .t2) (a .own)) (c .before .before .before .loop .e .entries) i _ noEntry (omega (arith, v .1, c .before .before .before .before .before .before .before .before .pre)) (v .2) (entry-kept (a .p) (a .t2) (a .own) i _ (⊎-elim (λ w. kept-true _ _ _ _ (w .0 .taken) (w .1)) (λ w. kept-false _ _ _ _ (w .0 .left) (w .1)) (c .if1 .came))))
+    let v = c .before .before .before .before .loop .inv in
+    let l = c .before .before .before .loop-test .taken in
+    let a = c .before .before .before .before .before .before .before .before .before .args in
+    let i = c .before .before .before .before .loop .i in
+    (omega arith, length-set (c .before .before .before .before .loop .e .entries) i _ ∙ v .1, filled-next (setupAt (a .p) (a .t2) (a .own)) (c .before .before .before .before .loop .e .entries) i _ noEntry (omega (arith, v .1, c .before .before .before .before .before .before .before .before .before .pre)) (v .2) (c .held-entry .ensures ∙ entry-kept (a .p) (a .t2) (a .own) i _ (⊎-elim (λ w. kept-true _ _ _ _ (w .0 .taken) (w .1)) (λ w. kept-false _ _ _ _ (w .0 .left) (w .1)) (c .before .if1 .came))))
 
 returns : tie.Need-returns Inv-loop μ-loop
 returns c =
@@ -85,7 +88,8 @@ held-entries-spec =
     array-read-if1
     mul-setup
     array-read-setup
-    array-read-t29
+    array-read-held-entry
+    held-entry-requires
     mul-t15
     element-set-from-e
     add-i

@@ -1,9 +1,6 @@
 -- `placing::write` meets its contract. The loop: the first i entries stand on the slate, and the rest of it is as it was.
 use Rattle.placing.proofs.write.Statement.{statement}
 use Rattle.placing.proofs.write.Tie as tie
-use Rattle.placing.proofs.write.Reads as reads
-use Rattle.placing.proofs.write.Lts as lts
-use Rattle.scheduler.proofs.row_of.Reads as row-of-reads
 use mathlib.Core.Path.{_≡_, refl, ap, _∙_}
 use Prim.Native.Nat.{_-_, _≤_}
 use native.Mathlib.Omega.{arith}

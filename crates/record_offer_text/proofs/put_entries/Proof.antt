@@ -6,14 +6,14 @@ use Prim.Native.Nat.{_+_, _-_, _*_, _≤_}
 use lib.ListN.{length, take}
 use Rattle.record_texts.specs.Text.{Put}
 use Rattle.record_texts.specs.Laws.Putting.{then, put-none}
-use Rattle.record_offer_text.specs.Lines.{entriesText}
+use Rattle.record_offer_text.specs.Lines.{entriesText, entryMost}
 use Rattle.record_offer_text.proofs.Printing.{entries-more}
 use Rattle.record_offer_text.proofs.put_entries.Statement.{statement}
 use Rattle.record_offer_text.proofs.put_entries.Tie as tie
 
 abbrev Inv-loop : tie.InvT-loop
 Inv-loop out₀ at slate count end₀ i₀ out end i =
-    (i ≤ count) × (count ≤ length slate) × (at + 90 * count ≤ length out₀) × (length out ≡ length out₀) × (end ≤ at + 90 * i)
+    (i ≤ count) × (count ≤ length slate) × (at + entryMost * count ≤ length out₀) × (length out ≡ length out₀) × (end ≤ at + entryMost * i)
     × Put out₀ at (entriesText (take i slate)) out end
 
 abbrev μ-loop : tie.MeasureT-loop

@@ -27,8 +27,9 @@ use Rattle.board.specs.Setups.{setupOn}
 use Rattle.scheduler.specs.Alone.{Share, allStart, lastOf, diaryOf, companionsOf}
 use Rattle.scheduler.specs.Choosing.{Candidate, sort, Held, heldFor, holdFirst}
 use Rattle.scheduler.specs.declared.Entry.{Entry}
-use Rattle.scheduler.specs.Fitting.{numberOf, numbersOf, durationTogether, heldEntry, heldEntries, among, joinEach, allCompanions}
-use Rattle.scheduler.specs.Fitting.{companionEntry, companionEntries, entriesOf, spanTogether, shareOf, sharesOf}
+use Rattle.scheduler.specs.Fitting.{numberOf, numbersOf, durationTogether, entryOf, heldEntries, among, joinEach, allCompanions}
+use Rattle.scheduler.specs.Entries.{heldEntry, companionEntry}
+use Rattle.scheduler.specs.Fitting.{companionEntries, entriesOf, spanTogether, shareOf, sharesOf}
 use Rattle.scheduler.specs.Fitting.{fitsAll, allFree, freeToEnd, calendarOf, calendarsOf, startsAll, suits, lastAll, fitting, endOf}
 use Rattle.scheduler.specs.Placing.{ended, started, fitted}
 use Rattle.scheduler.specs.Plain.{startsThere, candidateAt, startable, enough, heldAt}
@@ -121,12 +122,12 @@ module _ (b c : Board) (k : Alike b c) (a : Activity) (ready : ℕ) where
   companions-same [] [] pairs-end = refl
   companions-same (h ∷ hs) (j ∷ ks) (pairs-on w p) = rw (companions-twin b c k a (h .resource) (j .resource) (w .twin), companions-same hs ks p) refl
 
-  entry-same : (setup : ℕ) (h j : Held) → TwinHeld h j → heldEntry (a .category) setup h ≡ heldEntry (a .category) setup j
+  entry-same : (setup : ℕ) (h j : Held) → TwinHeld h j → entryOf (a .category) setup h ≡ entryOf (a .category) setup j
   entry-same setup h j w =
       let e : h .resource .number ≡ j .resource .number = w .twin .alike .number-same in
       let f : setupOn (h .resource) (a .category) setup ≡ setupOn (j .resource) (a .category) setup = setup-twin b c k a (h .resource) (j .resource) (w .twin) (a .category) setup in
       let g : h .usage ≡ j .usage = w .usage-same in
-      λ i. record { number = e i; setup = f i; units = g i; companion = false }
+      λ i. heldEntry (e i) (f i) (g i)
 
   held-entries-same : (setup : ℕ) (hs ks : List Held) → Pairs TwinHeld hs ks → heldEntries (a .category) setup hs ≡ heldEntries (a .category) setup ks
   held-entries-same setup [] [] pairs-end = refl
@@ -194,7 +195,7 @@ module _ (N : ℕ → Type 0) (a : Activity) where
   entries-each hs z =
       let E = heldEntries (a .category) (durationTogether a hs .setup) hs in
       let J = joinEach (numbersOf hs) [] (allCompanions hs) in
-      let x = each-in-map N numberOf hs (each-of-map (λ e. N (e .number)) (heldEntry (a .category) (durationTogether a hs .setup)) hs (each-left {A = Entry} (λ e. N (e .number)) E (map companionEntry J) z)) in
+      let x = each-in-map N numberOf hs (each-of-map (λ e. N (e .number)) (entryOf (a .category) (durationTogether a hs .setup)) hs (each-left {A = Entry} (λ e. N (e .number)) E (map companionEntry J) z)) in
       let y = each-of-map (λ e. N (e .number)) companionEntry J (each-right {A = Entry} (λ e. N (e .number)) E (map companionEntry J) z) in
       (x, covered (numbersOf hs) J (allCompanions hs) x y (join-each (numbersOf hs) [] (allCompanions hs)))
 

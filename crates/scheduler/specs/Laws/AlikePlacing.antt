@@ -16,7 +16,7 @@ use Rattle.scheduler.specs.Alone.{spanOf}
 use Rattle.scheduler.specs.Choosing.{Held, Choice, noChoice, chosen, choosing}
 use Rattle.scheduler.specs.declared.Entry.{Entry}
 use Rattle.scheduler.specs.Fitting.{entriesOf, spanTogether, sharesOf, fitting, endOf}
-use Rattle.scheduler.specs.Placing.{Reply, placed, chosenNone, none, refused, ended, started}
+use Rattle.scheduler.specs.Placing.{Placement, Reply, placed, chosenNone, none, refused, ended, started}
 use Rattle.scheduler.specs.Placing.{fitted, fitChosen, timeOnly, byRequirements, placing, choosingInstant, refusalOf}
 use Rattle.scheduler.specs.Plain.{enough, heldAt, Chooses}
 use Rattle.cells.specs.Every.{Each, each-end, Pairs}
@@ -88,20 +88,20 @@ module _ (b c : Board) (k : Alike b c) (a : Activity) (ready : ℕ) (q : Resourc
           (ks, rw (← i) h, rw (early .1, w .1, i) (both .1))
 
 entriesIn : Reply → List Entry
-entriesIn (placed t s e es) = es
+entriesIn (placed p) = p .entries
 entriesIn (chosenNone t) = []
 entriesIn none = []
 entriesIn (refused n) = []
 
 unfoldable pub isPlaced : Reply → Bool
-isPlaced (placed t s e es) = true
+isPlaced (placed p) = true
 isPlaced (chosenNone t) = false
 isPlaced none = false
 isPlaced (refused n) = false
 
-pub not-placed : {X : Type 0} (r : Reply) → isPlaced r ≡ false → (t s e : ℕ) (es : List Entry) → r ≡ placed t s e es → X
+pub not-placed : {X : Type 0} (r : Reply) → isPlaced r ≡ false → (p : Placement) → r ≡ placed p → X
 unfolding isPlaced
-not-placed r h t s e es f = absurd (not-both true refl (sym (ap isPlaced f) ∙ h))
+not-placed r h p f = absurd (not-both true refl (sym (ap isPlaced f) ∙ h))
 
 -- a placement reports the entries that were fitted
 fitted-entries : (b : Board) (a : Activity) (span t : ℕ) (es : List Entry) → isPlaced (fitted b a span t es) ≡ true → entriesIn (fitted b a span t es) ≡ es
@@ -140,15 +140,15 @@ placing-unrefused b a ready = go (requirementsOf a) (choosing b a ready)
 
 module _ (b c : Board) (k : Alike b c) (a : Activity) (ready from : ℕ) (lawful : activityRefusal a from ≡ 0) where
   -- the same placement, where no extra is on a resource that it reports
-  pub placing-same : (t s e : ℕ) (es : List Entry) → placing b a ready ≡ placed t s e es → Each (λ x. NoExtra b c (x .number)) es → placing c a ready ≡ placed t s e es
+  pub placing-same : (p : Placement) → placing b a ready ≡ placed p → Each (λ x. NoExtra b c (x .number)) (p .entries) → placing c a ready ≡ placed p
   unfolding placing byRequirements timeOnly fitChosen isPlaced entriesIn
-  placing-same t s e es h z = go (requirementsOf a) refl h
+  placing-same p h z = go (requirementsOf a) refl h
     where
       held : (q : ResourceRequirement) (qs : List ResourceRequirement) → requirementsOf a ≡ q ∷ qs → (f : Choice) → choosing b a ready ≡ f
-          → fitChosen b a f ≡ placed t s e es → fitChosen c a (choosing c a ready) ≡ placed t s e es
-      held q qs asks noChoice f g = not-placed none refl t s e es g
+          → fitChosen b a f ≡ placed p → fitChosen c a (choosing c a ready) ≡ placed p
+      held q qs asks noChoice f g = not-placed none refl p g
       held q qs asks (chosen u hs) f g =
-          let i : entriesOf a hs ≡ es = sym (fitted-entries b a (spanTogether a hs) u (entriesOf a hs) (ap isPlaced g)) ∙ ap entriesIn g in
+          let i : entriesOf a hs ≡ p .entries = sym (fitted-entries b a (spanTogether a hs) u (entriesOf a hs) (ap isPlaced g)) ∙ ap entriesIn g in
           let y : Each (λ x. NoExtra b c (x .number)) (entriesOf a hs) = subst (Each (λ x. NoExtra b c (x .number))) (sym i) z in
           let w = chosen-same b c k a ready q qs asks (some-of-each a from q qs asks lawful) u hs f (clean-held-all b c k a hs y) in
           let j = entries-same b c k a ready hs (w .0) (w .2) in
@@ -156,8 +156,8 @@ module _ (b c : Board) (k : Alike b c) (a : Activity) (ready from : ℕ) (lawful
           ap (fitChosen c a) (w .1) ∙ n ∙ sym (fitted-same b c k a (entriesOf a hs) y (spanTogether a hs) u) ∙ g
 
       go : (l : List ResourceRequirement) → requirementsOf a ≡ l
-          → byRequirements l (timeOnly b a ready) (fitChosen b a (choosing b a ready)) ≡ placed t s e es
-          → byRequirements l (timeOnly c a ready) (fitChosen c a (choosing c a ready)) ≡ placed t s e es
+          → byRequirements l (timeOnly b a ready) (fitChosen b a (choosing b a ready)) ≡ placed p
+          → byRequirements l (timeOnly c a ready) (fitChosen c a (choosing c a ready)) ≡ placed p
       go [] asks g = sym (fitted-same b c k a [] each-end (spanOf (a .duration .setup) (a .duration)) ready) ∙ g
       go (q ∷ qs) asks g = held q qs asks (choosing b a ready) refl g
 

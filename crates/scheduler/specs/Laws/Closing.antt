@@ -16,7 +16,7 @@ use Rattle.activity.specs.declared.Activity.{Activity}
 use Rattle.cells.specs.Every.{every, each-on}
 use Rattle.scheduler.specs.Alone.{Share, allStart}
 use Rattle.scheduler.specs.Fitting.{fitsAll, allFree, calendarsOf, freeToEnd, startsAll, suits, fitting, endOf, lastAll}
-use Rattle.scheduler.specs.Placing.{placed, ended, started}
+use Rattle.scheduler.specs.Placing.{ended, started}
 use Rattle.scheduler.specs.Laws.Together.{Sound, last-calm}
 use Rattle.calendar.specs.declared.Calendar.{Calendar}
 use Rattle.scheduler.specs.Shares.{ownShare}
@@ -59,8 +59,8 @@ module _ (a : Activity) (open-ever : a .calendar .windows .len ≡ 0) (never-shu
   ends-then true = through
   ends-then false = refl
 
-  pub plainly : (resumable : Bool) → started resumable [] a span ready [] (fitting resumable [] (a .calendar) span ready) ≡ placed ready ready (ready + span) []
-  unfolding started ended fitting
+  pub plainly : (resumable : Bool) → started resumable [] a span ready [] (fitting resumable [] (a .calendar) span ready) ≡ ended ready ready [] (at (ready + span))
+  unfolding started fitting
   plainly resumable =
       ap (started resumable [] a span ready []) (least-is (suits resumable [] (a .calendar) span) ready _ ready (record { low = omega arith; holds = at-once resumable; first = λ x l m. absurd (omega arith) }) (omega arith))
       ∙ ap (ended ready ready []) (ends-then resumable)

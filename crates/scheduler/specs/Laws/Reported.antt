@@ -17,8 +17,9 @@ use Rattle.board.specs.Valid as board
 use Rattle.board.specs.Theorems.Meaning.{lookup-is}
 use Rattle.scheduler.specs.Alone.{companionsOf}
 use Rattle.scheduler.specs.Choosing.{sort, Held, heldFor, holdFirst}
-use Rattle.scheduler.specs.Fitting.{numbersOf, durationTogether, heldEntry, heldEntries, among, joinEach}
-use Rattle.scheduler.specs.Fitting.{allCompanions, companionEntry, companionEntries, entriesOf, sharesOf}
+use Rattle.scheduler.specs.Fitting.{numbersOf, durationTogether, entryOf, heldEntries, among, joinEach}
+use Rattle.scheduler.specs.Entries.{companionEntry}
+use Rattle.scheduler.specs.Fitting.{allCompanions, companionEntries, entriesOf, sharesOf}
 use Rattle.scheduler.specs.Plain.{startsThere, candidateAt, startable, heldAt}
 use Rattle.cells.specs.Laws.Each.{each-append, each-take, each-every, each-weaken, each-in-map}
 use Rattle.cells.specs.Laws.Arrays.{each-cells}
@@ -81,7 +82,7 @@ module _ (b : Board) where
   entries-on a hs z =
       let J = joinEach (numbersOf hs) [] (allCompanions hs) in
       each-append (λ e. On (e .number)) (heldEntries (a .category) (durationTogether a hs .setup) hs) (map companionEntry J)
-      (each-in-map (λ e. On (e .number)) (heldEntry (a .category) (durationTogether a hs .setup)) hs (each-weaken (λ h. Whole (h .resource)) (λ h. On (h .resource .number)) hs (λ h w. w .itself) z))
+      (each-in-map (λ e. On (e .number)) (entryOf (a .category) (durationTogether a hs .setup)) hs (each-weaken (λ h. Whole (h .resource)) (λ h. On (h .resource .number)) hs (λ h w. w .itself) z))
       (each-in-map (λ e. On (e .number)) companionEntry J (join-on (numbersOf hs) [] (allCompanions hs) each-end (companions-on hs z)))
 
   -- and their diaries keep the rules

@@ -15,9 +15,9 @@ use Rattle.activity.specs.Ready.{readyOf}
 use Rattle.activity.specs.Check.{activityRefusal}
 use Rattle.board.specs.declared.Board.{Board}
 use Rattle.board.specs.Valid as board
-use Rattle.scheduler.specs.declared.Entry.{Entry}
 use Rattle.calendar.specs.Refusals.{refusedOr}
-use Rattle.scheduler.specs.Placing.{Reply, placed, refused, placing, placeRefusal, placeReply, rowOf, slateAfter, choosingInstant, refusalOf}
+use Rattle.scheduler.specs.Placing.{Placement, Reply, placed, refused, placing, placeRefusal, placeReply, slateAfter, choosingInstant, refusalOf}
+use Rattle.scheduler.specs.Rows.{rowOf}
 use Rattle.cells.specs.Every.{Each}
 use Rattle.scheduler.specs.Alike.{Alike, NoExtra}
 use Rattle.scheduler.specs.Laws.AlikePlacing.{isPlaced, not-placed, placing-unrefused, placing-same, placing-later}
@@ -25,11 +25,11 @@ use Rattle.scheduler.specs.Laws.AlikePlacing.{isPlaced, not-placed, plac
 -- Two boards alike but for extra bookings on the second, one order, one ready time, and two slates, both under 24 entries or neither.
 pub record Demand3 (b c : Board) (a : Activity) (ready : ℕ) (slate other : List (List ℕ)) : Type 0 where
   -- where the first gives a placement and no extra is on a resource it reports, the placement comes out identical on the second ..
-  pub same-placement : (t s e : ℕ) (es : List Entry) → placeReply b a ready (length slate) ≡ placed t s e es → Each (λ x. NoExtra b c (x .number)) es
-      → placeReply c a ready (length other) ≡ placed t s e es
+  pub same-placement : (p : Placement) → placeReply b a ready (length slate) ≡ placed p → Each (λ x. NoExtra b c (x .number)) (p .entries)
+      → placeReply c a ready (length other) ≡ placed p
   -- .. and so do the rows of the slate that it writes
-  pub same-rows : (t s e : ℕ) (es : List Entry) → placeReply b a ready (length slate) ≡ placed t s e es → Each (λ x. NoExtra b c (x .number)) es
-      → take (length es) (slateAfter (placeReply c a ready (length other)) other) ≡ take (length es) (slateAfter (placeReply b a ready (length slate)) slate)
+  pub same-rows : (p : Placement) → placeReply b a ready (length slate) ≡ placed p → Each (λ x. NoExtra b c (x .number)) (p .entries)
+      → take (length (p .entries)) (slateAfter (placeReply c a ready (length other)) other) ≡ take (length (p .entries)) (slateAfter (placeReply b a ready (length slate)) slate)
   -- wherever the extras are, the second's choosing instant exists only if the first's does and is never earlier
   pub never-earlier : (u : ℕ) → choosingInstant (placeReply c a ready (length other)) ≡ at u → (t : ℕ) × (choosingInstant (placeReply b a ready (length slate)) ≡ at t) × (t ≤ u)
   -- the second refuses exactly when the first does, with the same number
@@ -46,17 +46,17 @@ module _ (b c : Board) (k : Alike b c) (a : Activity) (ready : ℕ) (slate other
       unrefused (ltb (length other) 24) 6 (activityRefusal a ready)
       (unrefused (not (board.valid c) || not (calendar.valid (a .calendar))) 14 (cond (ltb (length other) 24) 7 (activityRefusal a ready)) e .1) .1
 
-  identical : (t s e : ℕ) (es : List Entry) → placeReply b a ready (length slate) ≡ placed t s e es → Each (λ x. NoExtra b c (x .number)) es
-      → placeReply c a ready (length other) ≡ placed t s e es
+  identical : (p : Placement) → placeReply b a ready (length slate) ≡ placed p → Each (λ x. NoExtra b c (x .number)) (p .entries)
+      → placeReply c a ready (length other) ≡ placed p
   unfolding placeReply refusedOr isPlaced
-  identical t s e es h z =
+  identical p h z =
       go (placeRefusal c a ready (length other)) refl
-      (subst (λ (n : ℕ). refusedOr refused n (placing b a (readyOf (a .release) ready)) ≡ placed t s e es) refusals h)
+      (subst (λ (n : ℕ). refusedOr refused n (placing b a (readyOf (a .release) ready)) ≡ placed p) refusals h)
     where
-      go : (n : ℕ) → placeRefusal c a ready (length other) ≡ n → refusedOr refused n (placing b a (readyOf (a .release) ready)) ≡ placed t s e es
-          → refusedOr refused n (placing c a (readyOf (a .release) ready)) ≡ placed t s e es
-      go zero f g = placing-same b c k a (readyOf (a .release) ready) ready (lawful f) t s e es g z
-      go (suc n) f g = not-placed (refused (suc n)) refl t s e es g
+      go : (n : ℕ) → placeRefusal c a ready (length other) ≡ n → refusedOr refused n (placing b a (readyOf (a .release) ready)) ≡ placed p
+          → refusedOr refused n (placing c a (readyOf (a .release) ready)) ≡ placed p
+      go zero f g = placing-same b c k a (readyOf (a .release) ready) ready (lawful f) p g z
+      go (suc n) f g = not-placed (refused (suc n)) refl p g
 
   never : (u : ℕ) → choosingInstant (placeReply c a ready (length other)) ≡ at u → (t : ℕ) × (choosingInstant (placeReply b a ready (length slate)) ≡ at t) × (t ≤ u)
   unfolding placeReply refusedOr choosingInstant
@@ -79,15 +79,17 @@ module _ (b c : Board) (k : Alike b c) (a : Activity) (ready : ℕ) (slate other
   unfolding placeReply
   same-numbers = refusal-is b (placeRefusal b a ready (length slate)) ∙ ap (λ n. refusedOr at n nothing) refusals ∙ sym (refusal-is c (placeRefusal c a ready (length other)))
 
-  written : (t s e : ℕ) (es : List Entry) (r : Reply) (l : List (List ℕ)) → r ≡ placed t s e es → take (length es) (slateAfter r l) ≡ map rowOf es
+  written : (p : Placement) (r : Reply) (l : List (List ℕ)) → r ≡ placed p → take (length (p .entries)) (slateAfter r l) ≡ map rowOf (p .entries)
   unfolding slateAfter
-  written t s e es r l h = ap (λ (x : Reply). take (length es) (slateAfter x l)) h ∙ take-at (map rowOf es) (drop (length es) l) (length es) (length-map es rowOf)
+  written p r l h =
+      ap (λ (x : Reply). take (length (p .entries)) (slateAfter x l)) h
+      ∙ take-at (map rowOf (p .entries)) (drop (length (p .entries)) l) (length (p .entries)) (length-map (p .entries) rowOf)
 
   pub demand-3 : Demand3 b c a ready slate other
   demand-3 = record {
     same-placement = identical;
-    same-rows = λ t s e es h z.
-        written t s e es (placeReply c a ready (length other)) other (identical t s e es h z) ∙ sym (written t s e es (placeReply b a ready (length slate)) slate h);
+    same-rows = λ p h z.
+        written p (placeReply c a ready (length other)) other (identical p h z) ∙ sym (written p (placeReply b a ready (length slate)) slate h);
     never-earlier = never;
     same-refusal = same-numbers;
   }

@@ -1,6 +1,6 @@
 -- The marked runs M1 to M12 on the definitions: one theorem over one list.
 use mathlib.Core.Path.{_≡_, refl, ap}
-use mathlib.Core.Bool.{true, false}
+use mathlib.Core.Bool.{false}
 use mathlib.Core.List.{List, [], _∷_, _++_, map}
 use Prim.Native.Nat.{ℕ, _-_}
 use lib.ListN.{replicate, length, getD}
@@ -43,6 +43,7 @@ use Rattle.board.specs.Resources.{blankResource, newResource}
 use Rattle.scheduler.specs.Alone.{canStart, allStart, lastOf, earliestOf, resourceIn, withCompanions, durationAlone, spanOf, arrival, startWith, startAlone}
 use Rattle.scheduler.specs.Choosing.{sooner, insertBy, sortInto, answer, candidates, holdFirst, behind, round, greatestStart, settle, rounds, choosing}
 use Rattle.scheduler.specs.declared.Entry.{Entry}
+use Rattle.scheduler.specs.Entries.{heldEntry, companionEntry}
 use Rattle.scheduler.specs.Fitting.{durationTogether, greatestSetup, among, joinEach, allCompanions, companionEntries, entriesOf, spanTogether}
 use Rattle.scheduler.specs.Fitting.{fitsAll, allFree, freeToEnd, startsAll, suits, lastAll, fitting, endOf}
 use Rattle.scheduler.specs.Placing.{Reply, placed, none, ended, started, fitted, fitChosen, timeOnly, byRequirements, placing, placeRefusal, placeReply}
@@ -110,7 +111,11 @@ order p q timings = record {
 }
 
 abbrev pub entry : ℕ → Entry
-entry number = record { number = number; setup = 0; units = 1; companion = false }
+entry number = heldEntry number 0 1
+
+-- the reply of a placement: choosing instant, start, end, entries
+abbrev pub placedAt : ℕ → ℕ → ℕ → List Entry → Reply
+placedAt t s e es = placed (record { choosing = t; start = s; end = e; entries = es })
 
 abbrev pub free1 : ResourceTimeline
 free1 = diary 1 empty []
@@ -156,10 +161,10 @@ replies =
     ∷ diaryReply (asking.fit 75 100)
     ∷ ms 501
     ∷ ms 667
-    ∷ placement (placed 0 0 30 (entry 1 ∷ []))
-    ∷ placement (placed 100 100 130 (entry 0 ∷ entry 1 ∷ []))
-    ∷ placement (placed 0 0 100 (entry 0 ∷ entry 1 ∷ []))
-    ∷ placement (placed 160 160 260 (entry 0 ∷ entry 1 ∷ []))
+    ∷ placement (placedAt 0 0 30 (entry 1 ∷ []))
+    ∷ placement (placedAt 100 100 130 (entry 0 ∷ entry 1 ∷ []))
+    ∷ placement (placedAt 0 0 100 (entry 0 ∷ entry 1 ∷ []))
+    ∷ placement (placedAt 160 160 260 (entry 0 ∷ entry 1 ∷ []))
     ∷ []
 
 pub runs : map run marked ≡ replies
@@ -183,7 +188,7 @@ placementIn (ms n) = none
 placementIn (placement r) = r
 
 -- M11's first placing, by itself
-pub first-placed : placeReply (boardOf (booked free1 0 100) free1) (order 30 1 []) 0 24 ≡ placed 0 0 30 (entry 1 ∷ [])
+pub first-placed : placeReply (boardOf (booked free1 0 100) free1) (order 30 1 []) 0 24 ≡ placedAt 0 0 30 (entry 1 ∷ [])
 unfolding run placementIn
 first-placed = ap (λ (l : List Result). placementIn (getD l 15 (ms 0))) runs
 
@@ -194,7 +199,7 @@ pub companion-joins :
       len = 2;
       transport = replicate 256 0;
     }) (order 100 1 (record { timing = Nothing } ∷ at two ∷ [])) 0 24
-    ≡ placed 0 0 100 (entry 0 ∷ record { number = 1; setup = 0; units = 1; companion = true } ∷ [])
+    ≡ placedAt 0 0 100 (entry 0 ∷ companionEntry 1 ∷ [])
 unfolding eq le mul div ofInt leastFrom spansFrom any holds meets contains calendar.cellRight everyFrom calendar.spansRight calendar.valid
     openFor fits working joint endFrom workEnd latest lastChange empty bookingsTo total latestEnd before timeline.cellRight
     timeline.cellEmpty timeline.contentsRight timeline.valid overlaps onAt tally load free fitsAt freeTo startsAt lastEvent earliestFit earliestResumable

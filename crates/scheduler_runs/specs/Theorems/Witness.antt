@@ -19,11 +19,11 @@ use Rattle.board.specs.declared.Board.{Board}
 use Rattle.board.specs.Resources as resources
 use Rattle.board.specs.Valid as board
 use Rattle.scheduler.specs.Alone.{resourceIn}
-use Rattle.scheduler.specs.Placing.{placed, placeReply}
+use Rattle.scheduler.specs.Placing.{placeReply}
 use Rattle.scheduler.specs.Alike.{AlikeResource, Alike, NoExtra}
 use Rattle.scheduler.specs.Laws.AlikeDiaries.{same-alike}
 use Rattle.scheduler.specs.Theorems.Demand3.{demand-3}
-use Rattle.scheduler_runs.specs.Theorems.Runs.{boardOf, booked, free1, order, entry, first-placed}
+use Rattle.scheduler_runs.specs.Theorems.Runs.{boardOf, booked, free1, order, entry, placedAt, first-placed}
 
 abbrev pub first : Board
 first = boardOf (booked free1 0 100) free1
@@ -89,5 +89,5 @@ clean =
     each-on same each-end
 
 -- so the second board places it as the first does
-pub same-placement : placeReply second (order 30 1 []) 0 24 ≡ placed 0 0 30 (entry 1 ∷ [])
-same-placement = demand-3 first second alike (order 30 1 []) 0 (replicate 24 []) (replicate 24 []) refl .same-placement 0 0 30 (entry 1 ∷ []) first-placed clean
+pub same-placement : placeReply second (order 30 1 []) 0 24 ≡ placedAt 0 0 30 (entry 1 ∷ [])
+same-placement = demand-3 first second alike (order 30 1 []) 0 (replicate 24 []) (replicate 24 []) refl .same-placement _ first-placed clean

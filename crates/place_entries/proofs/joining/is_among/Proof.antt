@@ -1,8 +1,6 @@
 -- `place_entries::joining::is_among` meets its contract. The loop: none of the first i entries has the number.
 use Rattle.place_entries.proofs.joining.is_among.Statement.{statement}
 use Rattle.place_entries.proofs.joining.is_among.Tie as tie
-use Rattle.place_entries.proofs.joining.is_among.Reads as reads
-use Rattle.place_entries.proofs.joining.is_among.Lts as lts
 use mathlib.Core.Path.{_≡_, refl, sym}
 use mathlib.Core.Bool.{false}
 use mathlib.Core.List.{map}
@@ -11,11 +9,11 @@ use native.Mathlib.Omega.{arith}
 use borrow.Author.Needs.{needs}
 use lib.ListN.{length, take, length-map}
 use Rattle.scheduler.specs.Fitting.{among}
-use Rattle.place_entries.specs.Cells.{numberIn}
+use Rattle.place_entries.specs.Cells.{entryNumber}
 use Rattle.place_entries.proofs.Companions.{among-found, among-other}
 
 abbrev Inv-loop : tie.InvT-loop
-Inv-loop number e n i₀ i = (n ≤ 24) × (i ≤ n) × (length (e .entries) ≡ 24) × (among number (map numberIn (take i (e .entries))) ≡ false)
+Inv-loop number e n i₀ i = (n ≤ 24) × (i ≤ n) × (length (e .entries) ≡ 24) × (among number (map entryNumber (take i (e .entries))) ≡ false)
 
 abbrev μ-loop : tie.MeasureT-loop
 μ-loop number e n i₀ i = n - i

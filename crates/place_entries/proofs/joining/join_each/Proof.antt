@@ -1,9 +1,6 @@
 -- `place_entries::joining::join_each` meets its contract. The loop: the first i companions have joined, each once.
 use Rattle.place_entries.proofs.joining.join_each.Statement.{statement}
 use Rattle.place_entries.proofs.joining.join_each.Tie as tie
-use Rattle.place_entries.proofs.joining.join_each.Reads as reads
-use Rattle.place_entries.proofs.joining.join_each.Lts as lts
-use Rattle.place_entries.proofs.joining.is_among.Reads as is-among-reads
 use mathlib.Core.Path.{_≡_, sym, _∙_}
 use mathlib.Core.List.{[], map}
 use mathlib.Core.Logic.{⊎-elim}
@@ -13,14 +10,14 @@ use borrow.Author.Needs.{needs}
 use borrow.Author.Tests.{not-true, not-false}
 use lib.ListN.{length, take, length-map}
 use Rattle.scheduler.specs.Fitting.{joinEach}
-use Rattle.place_entries.specs.Cells.{numberIn}
+use Rattle.place_entries.specs.Cells.{entryNumber}
 use Rattle.place_entries.proofs.Companions.{Joined, joined-none, joined-few, small-at, join-skip, join-on, join-room}
 use Prim.Native.Nat.{_<_}
 
 abbrev Inv-loop : tie.InvT-loop
 Inv-loop list n more₀ i₀ more i =
     (n ≤ 32) × (i ≤ n) × (length (list .numbers) ≡ 32)
-    × Joined (take (more₀ .count) (more₀ .entries)) (more₀ .count) (joinEach (map numberIn (take (more₀ .count) (more₀ .entries))) [] (take i (list .numbers))) (more .entries) (more .count)
+    × Joined (take (more₀ .count) (more₀ .entries)) (more₀ .count) (joinEach (map entryNumber (take (more₀ .count) (more₀ .entries))) [] (take i (list .numbers))) (more .entries) (more .count)
 
 abbrev μ-loop : tie.MeasureT-loop
 μ-loop list n more₀ i₀ more i = n - i
@@ -49,14 +46,17 @@ room c =
     let small = small-at (a .t2 .numbers) (a .t2 .len) (omega (arith, v .2, q .1)) (q .2) i l in
     join-room _ _ (a .t2 .numbers) i _ _ (omega (arith, v .2, q .1)) (v .3) (sym e ∙ not-true _ (c .if1 .taken)) small
 
+companion-entry-requires : tie.Need-companion-entry-requires Inv-loop μ-loop
+companion-entry-requires c κs = search needs
+
 mul-t16 : tie.Need-mul-t16 Inv-loop μ-loop
-mul-t16 c = let r = room c in search needs
+mul-t16 c = let r = room (c .before) in search needs
 
 element-set-from-more : tie.Need-element-set-from-more Inv-loop μ-loop
-element-set-from-more c = room c
+element-set-from-more c = room (c .before)
 
 add-more : tie.Need-add-more Inv-loop μ-loop
-add-more c = let r = room c in search needs
+add-more c = let r = room (c .before) in search needs
 
 add-i : tie.Need-add-i Inv-loop μ-loop
 add-i c = search needs
@@ -78,7 +78,7 @@ loop-again c =
       omega arith,
       v .2,
       ⊎-elim
-          (λ w. rw (w .1) (join-on _ _ (a .t2 .numbers) i _ _ m (v .3) (sym e ∙ not-true _ (w .0 .taken)) small))
+          (λ w. rw (w .2, w .1 .ensures) (join-on _ _ (a .t2 .numbers) i _ _ m (v .3) (sym e ∙ not-true _ (w .0 .taken)) small))
           (λ w. rw (w .1) (join-skip _ _ (a .t2 .numbers) i _ _ m (v .3) (sym e ∙ not-false _ (w .0 .left))))
           (c .if1 .came),
     )
@@ -100,6 +100,7 @@ join-each-spec =
     loop-holds
     element-copy-out-number
     is-among-requires
+    companion-entry-requires
     mul-t16
     element-set-from-more
     add-more

@@ -2,8 +2,6 @@
 use borrow.Author.Needs.{needs}
 use Prim.Native.Nat.{_-_, _≤_}
 use native.Mathlib.Omega.{arith}
-use native.Mathlib.Omega.{arith}
-use Prim.Native.Nat.{_-_, _≤_}
 use Rattle.run_spoilt.proofs.bases.any_slate.Statement.{statement}
 use Rattle.run_spoilt.proofs.bases.any_slate.Tie as tie
 
@@ -19,11 +17,23 @@ loop-holds c = omega arith
 next-requires : tie.Need-next-requires Inv-loop μ-loop
 next-requires c κs = search needs
 
-mul-t8 : tie.Need-mul-t8 Inv-loop μ-loop
-mul-t8 c = search needs
+mul-held-entry : tie.Need-mul-held-entry Inv-loop μ-loop
+mul-held-entry c = search needs
 
-add-t13 : tie.Need-add-t13 Inv-loop μ-loop
-add-t13 c = search needs
+cast-held-entry : tie.Need-cast-held-entry Inv-loop μ-loop
+cast-held-entry c = search needs
+
+add-held-entry : tie.Need-add-held-entry Inv-loop μ-loop
+add-held-entry c = search needs
+
+cast-held-entry-2 : tie.Need-cast-held-entry-2 Inv-loop μ-loop
+cast-held-entry-2 c = search needs
+
+held-entry-requires : tie.Need-held-entry-requires Inv-loop μ-loop
+held-entry-requires c κs = search needs
+
+row-of-requires : tie.Need-row-of-requires Inv-loop μ-loop
+row-of-requires c κs = search needs
 
 mul-s : tie.Need-mul-s Inv-loop μ-loop
 mul-s c = search needs
@@ -51,8 +61,12 @@ any-slate-spec =
     μ-loop
     loop-holds
     next-requires
-    mul-t8
-    add-t13
+    mul-held-entry
+    cast-held-entry
+    add-held-entry
+    cast-held-entry-2
+    held-entry-requires
+    row-of-requires
     mul-s
     array-set-from-s
     add-i

@@ -1,10 +1,10 @@
--- `scheduler::row_of` meets its contract.
+-- `scheduler::rows::row_of` meets its contract.
 use borrow.Author.Needs.{needs}
-use Rattle.scheduler.proofs.row_of.Statement.{statement}
-use Rattle.scheduler.proofs.row_of.Tie as tie
+use Rattle.scheduler.proofs.rows.row_of.Statement.{statement}
+use Rattle.scheduler.proofs.rows.row_of.Tie as tie
 use mathlib.Core.Path.{refl}
 use mathlib.Core.Logic.{⊎-elim}
-use Rattle.scheduler.specs.Placing.{rowOf}
+use Rattle.scheduler.specs.Rows.{rowOf}
 
 cast-t5 : tie.Need-cast-t5
 cast-t5 c = search needs

@@ -1,0 +1,27 @@
+-- A row of a slate: how an entry stands on it, and what is read of it. Which word is which, and how many there are, is said here alone.
+use Prim.Native.Nat.{ℕ}
+use mathlib.Core.Bool.{Bool, not, cond}
+use mathlib.Core.List.{List, [], _∷_}
+use lib.ListN.{getD}
+use lib.Dec.{eqb}
+use Rattle.scheduler.specs.declared.Entry.{Entry}
+
+-- an entry on the slate: number, setup, units, companion 0 or 1
+unfoldable pub rowOf : Entry → List ℕ
+rowOf e = e .number ∷ e .setup ∷ e .units ∷ cond (e .companion) 1 0 ∷ []
+
+abbrev pub numberIn : List ℕ → ℕ
+numberIn row = getD row 0 0
+
+abbrev pub setupIn : List ℕ → ℕ
+setupIn row = getD row 1 0
+
+abbrev pub unitsIn : List ℕ → ℕ
+unitsIn row = getD row 2 0
+
+abbrev pub companionIn : List ℕ → ℕ
+companionIn row = getD row 3 0
+
+-- any word but 0
+abbrev pub isCompanion : List ℕ → Bool
+isCompanion row = not (eqb (companionIn row) 0)
