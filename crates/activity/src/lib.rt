@@ -3,6 +3,7 @@
 use calendar::Calendar;
 
 pub mod core;
+pub mod order;
 mod timing;
 
 pub struct ActivityDuration {

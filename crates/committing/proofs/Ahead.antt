@@ -12,11 +12,10 @@ use Rattle.calendar.specs.Search.{at}
 use Rattle.timeline.specs.declared.ResourceTimeline.{ResourceTimeline}
 use Rattle.timeline.specs.Book.{bookRefusal, taken, bookReply, withBooking}
 use Rattle.timeline.specs.Valid as timeline
-use Rattle.board.specs.declared.LastCategory.{LastCategory}
 use Rattle.board.specs.declared.LastCategory.the-variants.{Category}
 use Rattle.board.specs.declared.Resource.{Resource}
 use Rattle.board.specs.declared.Board.{Board}
-use Rattle.board.specs.Resources.{resourceAt, lookup}
+use Rattle.board.specs.Resources.{withTimeline, withLast, resourceAt, lookup}
 use Rattle.board.specs.Places.{placeOf, Known}
 use Rattle.board.specs.Valid as board
 use Rattle.board.specs.Enter.{withResource, changed}
@@ -45,30 +44,17 @@ book-taken t start end category u v room w some few =
     let f : leb 64 (t .len) ≡ false = lt-leb 64 (t .len) room in
     rw (v, s, e, o, m, n, f) refl
 
--- the resource with another diary and last category
-abbrev diaryAnd : Resource → ResourceTimeline → LastCategory → Resource
-diaryAnd r t last = record {
-  number = r .number;
-  kind = r .kind;
-  skills = r .skills;
-  companions = r .companions;
-  count = r .count;
-  timeline = t;
-  matrix = r .matrix;
-  last = last;
-}
-
 module _ (r : Resource) (t : ResourceTimeline) (start end category : ℕ) (l : Line) (e : t ≡ withBooking (r .timeline) start end (l .units)) where
   -- with a matrix, and not as a companion
-  pub booked-category : r .matrix .present ≡ true → l .companion ≡ false → diaryAnd r t (Category category) ≡ booked start end category l r
+  pub booked-category : r .matrix .present ≡ true → l .companion ≡ false → withLast (Category category) (withTimeline t r) ≡ booked start end category l r
   unfolding booked lastAfter
   booked-category p q = rw (e, p, q) refl
 
-  pub booked-companion : l .companion ≡ true → r .matrix .present ≡ true → diaryAnd r t (r .last) ≡ booked start end category l r
+  pub booked-companion : l .companion ≡ true → r .matrix .present ≡ true → withTimeline t r ≡ booked start end category l r
   unfolding booked lastAfter
   booked-companion q p = rw (e, p, q) refl
 
-  pub booked-plain : r .matrix .present ≡ false → diaryAnd r t (r .last) ≡ booked start end category l r
+  pub booked-plain : r .matrix .present ≡ false → withTimeline t r ≡ booked start end category l r
   unfolding booked lastAfter
   booked-plain p = rw (e, p) refl
 

@@ -26,24 +26,15 @@ fn book_on(r: Resource, start: u64, end: u64, category: u8, units: u32, companio
     let t = r.timeline;
     let more = t.book(start, end, units);
     let timeline = more.timeline;
-    let companions = r.companions;
+    let mut booked = r;
+    booked.timeline = timeline;
     let matrix = r.matrix;
-    let mut last = r.last;
     if matrix.present {
         if !companion {
-            last = LastCategory::Category(category);
+            return board::with_last(booked, LastCategory::Category(category));
         }
     }
-    Resource {
-        number: r.number,
-        kind: r.kind,
-        skills: r.skills,
-        companions: companions,
-        count: r.count,
-        timeline: timeline,
-        matrix: matrix,
-        last: last,
-    }
+    booked
 }
 
 // The refusal of a commitment, 0 for none: 15 a board that breaks the rules; no entries: none; 7 a count above the slate; then the rows'.

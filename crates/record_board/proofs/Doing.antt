@@ -18,6 +18,7 @@ use Rattle.board.specs.declared.Board.{Board}
 use Rattle.board.specs.declared.Entered.{Entered}
 use Rattle.board.specs.Enter.{addResourceReply, setMatrixReply, setTransitionReply, setInitialReply, setTransportReply}
 use Rattle.record_desk.specs.declared.Desk.{Desk}
+use Rattle.record_desk.specs.Desk.{withDiary, withBoard}
 use Rattle.record_board.specs.declared.DeskStepped.{DeskStepped}
 use Rattle.record_board.specs.declared.order.Ordered.{Ordered}
 use Rattle.record_bodies.specs.Bodies.{byte}
@@ -25,7 +26,7 @@ use Rattle.record_board.specs.Orders.{orderDoes, partReply}
 use Rattle.record_board.specs.Records.{signed, refusalOf, diaryTold, diaryDoes, added, addDoes, entryReply, entered, ordered, stepReply}
 
 pub diary-told : (d : Desk) (s : records.DiaryStepped) (n k : ℕ) (bs : List ℕ) (i : ℕ) → n ≡ refusalOf (lineOf (s .line)) → steppedOf s ≡ recordDoes (d .timeline) k bs i
-    → record { desk = record { timeline = s .timeline; activity = d .activity; board = d .board }; refusal = n } ≡ diaryDoes d k bs i
+    → record { desk = withDiary d (s .timeline); refusal = n } ≡ diaryDoes d k bs i
 unfolding diaryDoes diaryTold steppedOf
 diary-told d s n k bs i a b = rw (← b, a) refl
 
@@ -34,7 +35,7 @@ unfolding added
 add-refused d e h = rw (ne-eqb (e .refusal) 0 h) refl
 
 pub add-taken : (d : Desk) (e : Entered) (t : ResourceTimeline) → e .refusal ≡ 0 → t ≡ newDiary (pos 1)
-    → record { desk = record { timeline = t; activity = d .activity; board = e .board }; refusal = 0 } ≡ added d e
+    → record { desk = withBoard (withDiary d t) (e .board); refusal = 0 } ≡ added d e
 unfolding added
 add-taken d e t h f = rw (eq-eqb (e .refusal) 0 h, ← f) refl
 

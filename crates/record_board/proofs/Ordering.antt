@@ -3,8 +3,6 @@ use mathlib.Core.Path.{_≡_, refl}
 use mathlib.Core.Bool.{true, false}
 use mathlib.Core.List.{List}
 use Prim.Native.Nat.{ℕ, _+_, _≤_, _<_}
-use native.Mathlib.Omega.{arith}
-use lib.ListN.{set}
 use lib.IntN.{pos}
 use lib.Dec.{ltb, eqb}
 use lib.Ieee.{Float, binary64, ofBits}
@@ -23,8 +21,9 @@ use Rattle.activity.specs.declared.Release.the-variants.{Absent, At}
 use Rattle.activity.specs.declared.Activity.{Activity}
 use Rattle.record_desk.specs.declared.Desk.{Desk}
 use Rattle.record_bodies.specs.Bodies.{byte}
-use Rattle.record_desk.specs.Desk.{orderWith}
-use Rattle.record_board.specs.Orders.{durationAt, releaseOf, orderBy, orderAt, flagAbove, orderDoes, withRequirement, requirementAt, withTiming, timingAt, partReply}
+use Rattle.activity.specs.Order.{orderWith, withRequirement, withTiming}
+use Rattle.record_desk.specs.Desk.{withDiary, withOrder}
+use Rattle.record_board.specs.Orders.{durationAt, releaseOf, orderBy, orderAt, flagAbove, orderDoes, requirementAt, timingAt, partReply}
 
 pub released : (p n : ℕ) → p ≡ 1 → At n ≡ releaseOf p n
 unfolding releaseOf
@@ -33,46 +32,6 @@ released p n e = rw (eq-eqb p 1 e) refl
 pub unreleased : (p n : ℕ) → (p ≡ 1 → ⊥) → Absent ≡ releaseOf p n
 unfolding releaseOf
 unreleased p n e = rw (ne-eqb p 1 e) refl
-
--- a fifth counts, a fourth is kept too
-pub required-more : (a : Activity) (q : ResourceRequirement) → 4 < a .len → a ≡ withRequirement a q
-unfolding withRequirement
-required-more a q h = rw (le-ltb (a .len) 4 (omega arith), le-ltb (a .len) 5 h) refl
-
-pub required-fifth : (a : Activity) (q : ResourceRequirement) → a .len ≡ 4
-    → record {
-      category = a .category;
-      duration = a .duration;
-      resumable = a .resumable;
-      release = a .release;
-      calendar = a .calendar;
-      origins = a .origins;
-      requirements = a .requirements;
-      len = a .len + 1;
-      timings = a .timings;
-    } ≡ withRequirement a q
-unfolding withRequirement
-required-fifth a q h =
-    let l : ltb (a .len) 4 ≡ false = le-ltb (a .len) 4 (omega arith) in
-    let m : ltb (a .len) 5 ≡ true = lt-ltb (a .len) 5 (omega arith) in
-    rw (l, m) refl
-
-pub required-kept : (a : Activity) (q : ResourceRequirement) → a .len < 4
-    → record {
-      category = a .category;
-      duration = a .duration;
-      resumable = a .resumable;
-      release = a .release;
-      calendar = a .calendar;
-      origins = a .origins;
-      requirements = set (a .requirements) (a .len) q;
-      len = a .len + 1;
-      timings = a .timings;
-    } ≡ withRequirement a q
-unfolding withRequirement
-required-kept a q h =
-    let m : ltb (a .len) 5 ≡ true = lt-ltb (a .len) 5 (omega arith) in
-    rw (lt-ltb (a .len) 4 h, m) refl
 
 module _ (bs : List ℕ) (i : ℕ) where
   pub above-first : 1 < byte bs (i + 25) → true ≡ flagAbove bs i
@@ -97,12 +56,12 @@ module _ (d : Desk) (bs : List ℕ) (i : ℕ) where
   flagged h = rw (← h) refl
 
   module _ (f : false ≡ flagAbove bs i) (a : Activity) (c : Calendar) (ea : a ≡ orderBy bs i c) where
-    pub without-calendar : byte bs (i + 37) ≡ 0 → c ≡ empty → record { desk = record { timeline = d .timeline; activity = a; board = d .board }; refusal = 0 } ≡ orderDoes d bs i
+    pub without-calendar : byte bs (i + 37) ≡ 0 → c ≡ empty → record { desk = withOrder d a; refusal = 0 } ≡ orderDoes d bs i
     unfolding orderDoes orderAt
     without-calendar z ec = rw (← f, eq-eqb (byte bs (i + 37)) 0 z, ← ec, ← ea) refl
 
     pub with-calendar : (u : ResourceTimeline) → (byte bs (i + 37) ≡ 0 → ⊥) → u ≡ newDiary (pos 1) → d .timeline .calendar ≡ c
-        → record { desk = record { timeline = u; activity = a; board = d .board }; refusal = 0 } ≡ orderDoes d bs i
+        → record { desk = withOrder (withDiary d u) a; refusal = 0 } ≡ orderDoes d bs i
     unfolding orderDoes orderAt
     with-calendar u z eu ec = rw (← f, ne-eqb (byte bs (i + 37)) 0 z, ec, ← eu, ← ea) refl
 
@@ -123,6 +82,6 @@ module _ (a : Activity) (k : ℕ) (bs : List ℕ) (i : ℕ) where
   unfolding partReply
   part-above h l = rw (ne-eqb k 22 h, lt-ltb 15 (byte bs i) l) refl
 
-  pub part-timed : (t : ResourceTiming) → (k ≡ 22 → ⊥) → byte bs i ≤ 15 → t ≡ timingAt k bs i → record { refusal = 0; activity = withTiming a (byte bs i) t } ≡ partReply a k bs i
+  pub part-timed : (m : Activity) (t : ResourceTiming) → (k ≡ 22 → ⊥) → byte bs i ≤ 15 → t ≡ timingAt k bs i → m ≡ withTiming a (byte bs i) t → record { refusal = 0; activity = m } ≡ partReply a k bs i
   unfolding partReply
-  part-timed t h l e = rw (ne-eqb k 22 h, le-ltb 15 (byte bs i) l, ← e) refl
+  part-timed m t h l e f = rw (ne-eqb k 22 h, le-ltb 15 (byte bs i) l, ← e, ← f) refl

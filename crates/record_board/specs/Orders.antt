@@ -2,7 +2,6 @@
 use Prim.Native.Nat.{ℕ, _+_}
 use mathlib.Core.Bool.{Bool, cond, _||_}
 use mathlib.Core.List.{List}
-use lib.ListN.{set}
 use lib.IntN.{pos}
 use lib.Dec.{ltb, eqb}
 use lib.Ieee.{binary64, ofBits}
@@ -20,7 +19,8 @@ use Rattle.activity.specs.declared.Activity.{Activity}
 use Rattle.record_desk.specs.declared.Desk.{Desk}
 use Rattle.record_board.specs.declared.DeskStepped.{DeskStepped}
 use Rattle.record_board.specs.declared.order.Ordered.{Ordered}
-use Rattle.record_desk.specs.Desk.{orderWith}
+use Rattle.activity.specs.Order.{orderWith, withRequirement, withTiming}
+use Rattle.record_desk.specs.Desk.{withDiary, withOrder}
 use Rattle.record_bodies.specs.Bodies.{byte}
 
 -- setup, process, teardown (8 each)
@@ -47,28 +47,7 @@ flagAbove bs i = ltb 1 (byte bs (i + 25)) || (ltb 1 (byte bs (i + 26)) || ltb 1 
 unfoldable pub orderDoes : Desk → List ℕ → ℕ → DeskStepped
 orderDoes d bs i =
     cond (flagAbove bs i) (record { desk = d; refusal = 9 })
-    (record {
-      desk = record {
-        timeline = cond (eqb (byte bs (i + 37)) 0) (d .timeline) (newDiary (pos 1));
-        activity = orderAt d bs i;
-        board = d .board;
-      };
-      refusal = 0;
-    })
-
--- four requirements are kept; from the fifth on only the count tells, up to 5, which stands for any above
-unfoldable pub withRequirement : Activity → ResourceRequirement → Activity
-withRequirement a q = record {
-  category = a .category;
-  duration = a .duration;
-  resumable = a .resumable;
-  release = a .release;
-  calendar = a .calendar;
-  origins = a .origins;
-  requirements = cond (ltb (a .len) 4) (set (a .requirements) (a .len) q) (a .requirements);
-  len = cond (ltb (a .len) 5) (a .len + 1) (a .len);
-  timings = a .timings;
-}
+    (record { desk = withOrder (withDiary d (cond (eqb (byte bs (i + 37)) 0) (d .timeline) (newDiary (pos 1)))) (orderAt d bs i); refusal = 0 })
 
 -- type (1), candidates (2), skills (8), quantity (4), usage (4)
 abbrev pub requirementAt : List ℕ → ℕ → ResourceRequirement
@@ -78,19 +57,6 @@ requirementAt bs i = record {
   skills = little bs (i + 3) 8;
   quantity = little bs (i + 11) 4;
   usage = little bs (i + 15) 4;
-}
-
-abbrev pub withTiming : Activity → ℕ → ResourceTiming → Activity
-withTiming a number timing = record {
-  category = a .category;
-  duration = a .duration;
-  resumable = a .resumable;
-  release = a .release;
-  calendar = a .calendar;
-  origins = a .origins;
-  requirements = a .requirements;
-  len = a .len;
-  timings = set (a .timings) number (record { timing = timing });
 }
 
 -- kind 23: a speed, the bits of a double (8); kind 24: three durations

@@ -14,6 +14,7 @@ use Rattle.board.specs.declared.Board.{Board}
 use Rattle.board.specs.declared.Entered.{Entered}
 use Rattle.board.specs.Enter.{addResourceReply, setMatrixReply, setTransitionReply, setInitialReply, setTransportReply}
 use Rattle.record_desk.specs.declared.Desk.{Desk}
+use Rattle.record_desk.specs.Desk.{withDiary, withOrder, withBoard}
 use Rattle.record_board.specs.declared.DeskStepped.{DeskStepped}
 use Rattle.record_board.specs.declared.order.Ordered.{Ordered}
 use Rattle.record_bodies.specs.Bodies.{byte}
@@ -31,10 +32,7 @@ refusalOf (line none) = 0
 refusalOf (line (refused n)) = n
 
 unfoldable pub diaryTold : Desk → Done → DeskStepped
-diaryTold d r = record {
-  desk = record { timeline = r .timeline; activity = d .activity; board = d .board };
-  refusal = refusalOf (r .prints);
-}
+diaryTold d r = record { desk = withDiary d (r .timeline); refusal = refusalOf (r .prints) }
 
 -- as in `slot`, on the diary in hand
 unfoldable pub diaryDoes : Desk → ℕ → List ℕ → ℕ → DeskStepped
@@ -44,7 +42,7 @@ diaryDoes d kind bs i = diaryTold d (recordDoes (d .timeline) kind bs i)
 unfoldable pub added : Desk → Entered → DeskStepped
 added d e =
     cond (eqb (e .refusal) 0)
-    (record { desk = record { timeline = newDiary (pos 1); activity = d .activity; board = e .board }; refusal = 0 })
+    (record { desk = withBoard (withDiary d (newDiary (pos 1))) (e .board); refusal = 0 })
     (record { desk = d; refusal = e .refusal })
 
 -- number (1), type (1), skills (8), count (1), then that many companions (1 each)
@@ -62,10 +60,10 @@ entryReply b kind bs i =
     (setTransportReply b (byte bs i) (byte bs (i + 1)) (little bs (i + 2) 8))))
 
 abbrev pub entered : Desk → Entered → DeskStepped
-entered d e = record { desk = record { timeline = d .timeline; activity = d .activity; board = e .board }; refusal = e .refusal }
+entered d e = record { desk = withBoard d (e .board); refusal = e .refusal }
 
 abbrev pub ordered : Desk → Ordered → DeskStepped
-ordered d o = record { desk = record { timeline = d .timeline; activity = o .activity; board = d .board }; refusal = o .refusal }
+ordered d o = record { desk = withOrder d (o .activity); refusal = o .refusal }
 
 -- a record of a known kind, its body beginning at index i
 unfoldable pub stepReply : Desk → ℕ → List ℕ → ℕ → DeskStepped

@@ -5,18 +5,19 @@ use activity::ActivityDuration;
 use activity::Release;
 use activity::ResourceRequirement;
 use activity::ResourceTiming;
-use activity::Timed;
+use activity::order::order_with;
+use activity::order::with_requirement;
+use activity::order::with_timing;
 use calendar::Calendar;
 use record_bodies::number;
 use record_desk::Desk;
-use record_desk::order_with;
 use timeline::ResourceTimeline;
 ghost use mathlib.Core.Path.{_≡_};
 ghost use Prim.Native.Nat.{_+_, _≤_};
 ghost use lib.ListN.{length};
 ghost use lib.Ieee.{binary64, ofBits};
 ghost use Rattle.record_bodies.specs.Bodies.{fixedLen};
-ghost use Rattle.record_board.specs.Orders.{durationAt, releaseOf, withRequirement, requirementAt, timingAt};
+ghost use Rattle.record_board.specs.Orders.{durationAt, releaseOf, requirementAt, timingAt};
 ghost use Rattle.record_board.specs.Orders.{partReply, flagAbove, orderBy, orderDoes};
 
 // What a part of an order answers: the refusal's number, 0 for none, and the order, new or unchanged.
@@ -113,23 +114,6 @@ pub fn new_order(desk: Desk, bytes: &[u8], at: usize) -> DeskStepped
     }
 }
 
-// One requirement more. Four are kept; of a fifth only the count tells, and 5 stands for any count above.
-fn with_requirement(activity: Activity, q: ResourceRequirement) -> Activity
-    ensures { λ r. ⌜ r ≡ withRequirement activity q ⌝ }
-{
-    let n = activity.len;
-    if n > 4 {
-        return activity;
-    }
-    let mut a = activity;
-    a.len = n + 1;
-    if n == 4 {
-        return a;
-    }
-    a.requirements[n] = q;
-    a
-}
-
 fn requirement_at(bytes: &[u8], at: usize) -> ResourceRequirement
     requires { ⌜ at + 19 ≤ length (now bytes) ⌝ }
     ensures { λ r. ⌜ r ≡ requirementAt (now (bytes .entry)) at ⌝ }
@@ -183,18 +167,17 @@ pub fn part(activity: Activity, kind: u8, bytes: &[u8], at: usize) -> Ordered
             activity: more,
         };
     }
-    let mut a = activity;
     let n = bytes[at];
     if n > 15 {
         return Ordered {
             refusal: 5,
-            activity: a,
+            activity: activity,
         };
     }
     let timing = timing_at(kind, bytes, at);
-    a.timings[n as usize] = Timed { timing: timing };
+    let timed = with_timing(activity, n, timing);
     Ordered {
         refusal: 0,
-        activity: a,
+        activity: timed,
     }
 }

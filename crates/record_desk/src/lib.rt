@@ -2,54 +2,18 @@
 use activity::Activity;
 use activity::ActivityDuration;
 use activity::Release;
-use activity::ResourceRequirement;
-use activity::ResourceTiming;
-use activity::Timed;
+use activity::order::order_with;
 use board::Board;
 use calendar::Calendar;
 use timeline::ResourceTimeline;
 ghost use mathlib.Core.Path.{_≡_};
-ghost use Rattle.record_desk.specs.Desk.{orderWith, emptyOrder, emptyDesk};
+ghost use Rattle.record_desk.specs.Desk.{emptyOrder, emptyDesk};
 
 // What is in hand: a diary, an order, a board.
 pub struct Desk {
     pub timeline: ResourceTimeline,
     pub activity: Activity,
     pub board: Board,
-}
-
-// An order with no requirement and no timing.
-pub fn order_with(
-    category: u8,
-    duration: ActivityDuration,
-    resumable: bool,
-    release: Release,
-    calendar: Calendar,
-    origins: u16,
-) -> Activity
-    ensures { λ r. ⌜ r ≡ orderWith category duration resumable release calendar origins ⌝ }
-{
-    let none = ResourceRequirement {
-        kind: 0,
-        candidates: 0,
-        skills: 0,
-        quantity: 0,
-        usage: 0,
-    };
-    let untimed = Timed {
-        timing: ResourceTiming::Nothing,
-    };
-    Activity {
-        category: category,
-        duration: duration,
-        resumable: resumable,
-        release: release,
-        calendar: calendar,
-        origins: origins,
-        requirements: [none; 4],
-        len: 0,
-        timings: [untimed; 16],
-    }
 }
 
 // An order of nothing.

@@ -7,8 +7,6 @@ use lib.IntN.{ℤ}
 use mir.Syntax.{w64}
 use mir.Val.{SFits, toZ, ofZ}
 use mir.ValLaws.{toZ-ofZ}
-use Rattle.calendar.specs.declared.TimeWindows.{TimeWindows}
-use Rattle.calendar.specs.declared.Calendar.{Calendar}
 use Rattle.timeline.specs.declared.ResourceTimeline.{ResourceTimeline}
 use Rattle.board.specs.declared.TransitionMatrix.{TransitionMatrix}
 use Rattle.board.specs.declared.LastCategory.{LastCategory}
@@ -24,29 +22,6 @@ same-flags true true e = refl
 same-flags true false e = absurd (true≢false e)
 same-flags false true e = absurd (true≢false e)
 same-flags false false e = refl
-
-pub spans-same : (a b : TimeWindows) → a .len ≡ b .len → a .starts ≡ b .starts → a .ends ≡ b .ends → a ≡ b
-spans-same a b l s e = go (a .starts) (b .starts) (a .ends) (b .ends) (a .len) (b .len) s e l
-  where
-    go : (s t u v : List ℕ) (m n : ℕ) → s ≡ t → u ≡ v → m ≡ n → _≡_ {A = TimeWindows} (record { starts = s; ends = u; len = m }) (record { starts = t; ends = v; len = n })
-    go s t u v m n p q r = rw (p, q, r) refl
-
-pub calendar-same : (a b : Calendar) → a .windows ≡ b .windows → a .blocks ≡ b .blocks → a ≡ b
-calendar-same a b w k = go (a .windows) (b .windows) (a .blocks) (b .blocks) w k
-  where
-    go : (s t u v : TimeWindows) → s ≡ t → u ≡ v → _≡_ {A = Calendar} (record { windows = s; blocks = u }) (record { windows = t; blocks = v })
-    go s t u v p q = rw (p, q) refl
-
-pub diary-same : (a b : ResourceTimeline) → a .capacity ≡ b .capacity → a .len ≡ b .len → a .booked ≡ b .booked → a .calendar ≡ b .calendar
-    → (a .starts ≡ b .starts) × (a .ends ≡ b .ends) × (a .latest ≡ b .latest) × (a .units ≡ b .units) → a ≡ b
-diary-same a b c n t k s =
-    go (a .capacity) (b .capacity) (a .calendar) (b .calendar) (a .starts) (b .starts) (a .ends) (b .ends) (a .units) (b .units) (a .latest) (b .latest) (a .len) (b .len) (a .booked) (b .booked)
-    c k (s .0) (s .1) (s .3) (s .2) n t
-  where
-    go : (c c′ : ℕ) (k k′ : Calendar) (s s′ e e′ u u′ l l′ : List ℕ) (n n′ t t′ : ℕ) → c ≡ c′ → k ≡ k′ → s ≡ s′ → e ≡ e′ → u ≡ u′ → l ≡ l′ → n ≡ n′ → t ≡ t′
-        → _≡_ {A = ResourceTimeline} (record { capacity = c; calendar = k; starts = s; ends = e; units = u; latest = l; len = n; booked = t })
-        (record { capacity = c′; calendar = k′; starts = s′; ends = e′; units = u′; latest = l′; len = n′; booked = t′ })
-    go c c′ k k′ s s′ e e′ u u′ l l′ n n′ t t′ p1 p2 p3 p4 p5 p6 p7 p8 = rw (p1, p2, p3, p4, p5, p6, p7, p8) refl
 
 pub matrix-same : (a b : TransitionMatrix) → a .present ≡ b .present → a .default ≡ b .default → a .initial ≡ b .initial → a .transitions ≡ b .transitions → a .initials ≡ b .initials → a ≡ b
 matrix-same a b h d i t s = go (a .present) (b .present) (a .default) (b .default) (a .initial) (b .initial) (a .transitions) (b .transitions) (a .initials) (b .initials) h d i t s

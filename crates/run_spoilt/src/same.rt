@@ -3,38 +3,17 @@ use board::Board;
 use board::LastCategory;
 use board::Resource;
 use board::TransitionMatrix;
-use calendar::Calendar;
-use calendar::TimeWindows;
 use scheduler::rows::Row;
-use timeline::ResourceTimeline;
 ghost use mathlib.Core.Path.{_≡_};
 ghost use mathlib.Core.Bool.{true};
 ghost use mathlib.Core.List.{[]};
 ghost use Prim.Native.Nat.{ℕ, _≤_, _<_};
 ghost use lib.ListN.{getD};
 
-// All words of two runs, which have one length.
-fn same_words(a: &[u64], b: &[u64]) -> bool
-    ensures { λ r. ⌜ (r ≡ true → now (a .entry) ≡ now (b .entry)) ⌝ }
-{
-    let n = a.len();
-    if b.len() != n {
-        return false;
-    }
-    let mut i: usize = 0;
-    while i < n {
-        if a[i] != b[i] {
-            return false;
-        }
-        i += 1;
-    }
-    true
-}
-
 fn same_row(a: Row, b: Row) -> bool
     ensures { λ r. ⌜ (r ≡ true → a ≡ b) ⌝ }
 {
-    same_words(&a, &b)
+    cells::same(&a, &b)
 }
 
 // The rows from `from` on.
@@ -46,26 +25,6 @@ pub fn same_rows(a: &[Row; 32], b: &[Row; 32], from: usize) -> bool
         let x = a[i];
         let y = b[i];
         if !same_row(x, y) {
-            return false;
-        }
-        i += 1;
-    }
-    true
-}
-
-// One column of a diary.
-fn same_column(a: [u64; 64], b: [u64; 64]) -> bool
-    ensures { λ r. ⌜ (r ≡ true → a ≡ b) ⌝ }
-{
-    same_words(&a, &b)
-}
-
-fn same_units(a: [u32; 64], b: [u32; 64]) -> bool
-    ensures { λ r. ⌜ (r ≡ true → a ≡ b) ⌝ }
-{
-    let mut i: usize = 0;
-    while i < 64 {
-        if a[i] != b[i] {
             return false;
         }
         i += 1;
@@ -104,72 +63,6 @@ fn same_signed(a: &[i64], b: &[i64]) -> bool
         i += 1;
     }
     true
-}
-
-fn same_spans(a: TimeWindows, b: TimeWindows) -> bool
-    ensures { λ r. ⌜ (r ≡ true → a ≡ b) ⌝ }
-{
-    if a.len != b.len {
-        return false;
-    }
-    let s = a.starts;
-    let t = b.starts;
-    if !same_words(&s, &t) {
-        return false;
-    }
-    let e = a.ends;
-    let f = b.ends;
-    same_words(&e, &f)
-}
-
-fn same_calendar(a: Calendar, b: Calendar) -> bool
-    ensures { λ r. ⌜ (r ≡ true → a ≡ b) ⌝ }
-{
-    if !same_spans(a.windows, b.windows) {
-        return false;
-    }
-    same_spans(a.blocks, b.blocks)
-}
-
-fn same_bookings(a: ResourceTimeline, b: ResourceTimeline) -> bool
-    ensures { λ r. ⌜ (r ≡ true → (a .starts ≡ b .starts) × (a .ends ≡ b .ends) × (a .latest ≡ b .latest) × (a .units ≡ b .units)) ⌝ }
-{
-    let s = a.starts;
-    let t = b.starts;
-    if !same_column(s, t) {
-        return false;
-    }
-    let e = a.ends;
-    let f = b.ends;
-    if !same_column(e, f) {
-        return false;
-    }
-    let l = a.latest;
-    let m = b.latest;
-    if !same_column(l, m) {
-        return false;
-    }
-    let u = a.units;
-    let v = b.units;
-    same_units(u, v)
-}
-
-fn same_diary(a: ResourceTimeline, b: ResourceTimeline) -> bool
-    ensures { λ r. ⌜ (r ≡ true → a ≡ b) ⌝ }
-{
-    if a.capacity != b.capacity {
-        return false;
-    }
-    if a.len != b.len {
-        return false;
-    }
-    if a.booked != b.booked {
-        return false;
-    }
-    if !same_calendar(a.calendar, b.calendar) {
-        return false;
-    }
-    same_bookings(a, b)
 }
 
 fn same_matrix(a: TransitionMatrix, b: TransitionMatrix) -> bool
@@ -237,7 +130,7 @@ fn same_resource(a: Resource, b: Resource) -> bool
     if !same_matrix(a.matrix, b.matrix) {
         return false;
     }
-    same_diary(a.timeline, b.timeline)
+    timeline::same::same(a.timeline, b.timeline)
 }
 
 fn same_resources(a: [Resource; 16], b: [Resource; 16]) -> bool
@@ -263,7 +156,7 @@ pub fn same_board(a: Board, b: Board) -> bool
     }
     let t = a.transport;
     let u = b.transport;
-    if !same_words(&t, &u) {
+    if !cells::same(&t, &u) {
         return false;
     }
     let r = a.resources;

@@ -10,6 +10,7 @@ use activity::Release;
 use activity::ResourceRequirement;
 use activity::ResourceTiming;
 use activity::Timed;
+use activity::order::with_release;
 use board::Board;
 use board::LastCategory;
 use board::Resource;
@@ -87,22 +88,6 @@ fn any_last(x: u64) -> LastCategory {
     LastCategory::Category((word(next(x)) % 256) as u8)
 }
 
-fn with_last(r: Resource, last: LastCategory) -> Resource {
-    let companions = r.companions;
-    let timeline = r.timeline;
-    let matrix = r.matrix;
-    Resource {
-        number: r.number,
-        kind: r.kind,
-        skills: r.skills,
-        companions: companions,
-        count: r.count,
-        timeline: timeline,
-        matrix: matrix,
-        last: last,
-    }
-}
-
 fn spoilt_resource(resource: Resource, x: u64) -> Resource {
     let i = (x / 64 % 4) as usize;
     let y = next(x);
@@ -123,7 +108,7 @@ fn spoilt_resource(resource: Resource, x: u64) -> Resource {
             let matrix = spoilt_matrix(resource.matrix, y);
             r.matrix = matrix;
         }
-        _ => return with_last(resource, any_last(y)),
+        _ => return board::with_last(resource, any_last(y)),
     }
     r
 }
@@ -181,24 +166,6 @@ fn any_timing(d: ActivityDuration, x: u64) -> ResourceTiming {
         0 => ResourceTiming::Nothing,
         1 => ResourceTiming::Duration(spoilt_duration(d, y)),
         _ => ResourceTiming::Speed(speed(y)),
-    }
-}
-
-fn with_release(a: Activity, release: Release) -> Activity {
-    let duration = a.duration;
-    let calendar = a.calendar;
-    let requirements = a.requirements;
-    let timings = a.timings;
-    Activity {
-        category: a.category,
-        duration: duration,
-        resumable: a.resumable,
-        release: release,
-        calendar: calendar,
-        origins: a.origins,
-        requirements: requirements,
-        len: a.len,
-        timings: timings,
     }
 }
 

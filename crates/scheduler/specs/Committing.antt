@@ -12,7 +12,7 @@ use Rattle.board.specs.declared.LastCategory.the-variants.{Category}
 use Rattle.board.specs.declared.Resource.{Resource}
 use Rattle.board.specs.declared.Board.{Board}
 use Rattle.board.specs.declared.Entered.{Entered}
-use Rattle.board.specs.Resources.{lookup, onBoard}
+use Rattle.board.specs.Resources.{withTimeline, withLast, lookup, onBoard}
 use Rattle.board.specs.Valid as board
 use Rattle.board.specs.Enter.{entered, changed}
 use Rattle.scheduler.specs.Alone.{diaryOf}
@@ -63,16 +63,8 @@ unfoldable pub lastAfter : Resource → Bool → ℕ → LastCategory
 lastAfter r companion category = cond (r .matrix .present && not companion) (Category category) (r .last)
 
 unfoldable pub booked : ℕ → ℕ → ℕ → Line → Resource → Resource
-booked start end category l r = record {
-  number = r .number;
-  kind = r .kind;
-  skills = r .skills;
-  companions = r .companions;
-  count = r .count;
-  timeline = withBooking (r .timeline) start end (l .units);
-  matrix = r .matrix;
-  last = lastAfter r (l .companion) category;
-}
+booked start end category l r =
+    withLast (lastAfter r (l .companion) category) (withTimeline (withBooking (r .timeline) start end (l .units)) r)
 
 -- books each entry in turn
 unfoldable pub bookAll : ℕ → ℕ → ℕ → List Line → Board → Board

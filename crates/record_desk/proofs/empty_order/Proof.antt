@@ -2,9 +2,9 @@
 use borrow.Author.Needs.{needs}
 use mathlib.Core.Path.{ap, _∙_}
 use mathlib.Core.Bool.{false}
-use Rattle.record_desk.specs.Desk.{orderWith, emptyOrder}
+use Rattle.activity.specs.Order.{orderWith}
+use Rattle.record_desk.specs.Desk.{emptyOrder}
 use Rattle.activity.specs.declared.Release.the-variants.{Absent}
-use mathlib.Core.Bool.{false}
 use Rattle.record_desk.proofs.empty_order.Statement.{statement}
 use Rattle.record_desk.proofs.empty_order.Tie as tie
 

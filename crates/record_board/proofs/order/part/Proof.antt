@@ -26,17 +26,11 @@ returns-2 c = part-above _ _ _ _ (λ e. omega arith) (omega arith)
 timing-at-requires : tie.Need-timing-at-requires
 timing-at-requires c κs = search needs
 
-cast-t15 : tie.Need-cast-t15
-cast-t15 c = search needs
-
-mul-t16 : tie.Need-mul-t16
-mul-t16 c = search needs
-
-element-set-from-a : tie.Need-element-set-from-a
-element-set-from-a c = search needs
+with-timing-requires : tie.Need-with-timing-requires
+with-timing-requires c κs = search needs
 
 returns-3 : tie.Need-returns-3
-returns-3 c = part-timed _ _ _ _ _ (λ e. omega arith) (omega arith) (c .timing-at .ensures)
+returns-3 c = part-timed _ _ _ _ _ _ (λ e. omega arith) (omega arith) (c .before .timing-at .ensures) (c .with-timing .ensures)
 
 pub part-spec : {M : Type 1} → statement M
 part-spec =
@@ -48,7 +42,5 @@ part-spec =
     shared-slice-read-n
     returns-2
     timing-at-requires
-    cast-t15
-    mul-t16
-    element-set-from-a
+    with-timing-requires
     returns-3)

@@ -36,8 +36,8 @@ same-matrix-requires c κs = search needs
 returns-7 : tie.Need-returns-7
 returns-7 c = λ h. absurd (false≢true h)
 
-same-diary-requires : tie.Need-same-diary-requires
-same-diary-requires c κs = search needs
+same-requires : tie.Need-same-requires
+same-requires c κs = search needs
 
 returns-8 : tie.Need-returns-8
 returns-8 c = λ h.
@@ -49,7 +49,7 @@ returns-8 c = λ h.
     (c .before .before .before .before .before .before .same-companions .ensures (not-false _ (c .before .before .before .before .before .if5 .left)))
     (c .before .before .before .before .same-last .ensures (not-false _ (c .before .before .before .if6 .left)))
     (c .before .before .same-matrix .ensures (not-false _ (c .before .if7 .left)))
-    (c .same-diary .ensures h)
+    (c .same .ensures .yes h)
 
 pub same-resource-spec : {M : Type 1} → statement M
 same-resource-spec =
@@ -65,5 +65,5 @@ same-resource-spec =
     returns-6
     same-matrix-requires
     returns-7
-    same-diary-requires
+    same-requires
     returns-8)
