@@ -11,6 +11,16 @@ use Rattle.timeline.specs.Book.{bookRefusal}
 use Rattle.timeline.proofs.book_refusal.Statement.{statement}
 use Rattle.timeline.proofs.book_refusal.Tie as tie
 
+-- the places that the proof looks back to, each from the next one
+abbrev else1 : tie.Else3 → tie.Else1
+else1 c = c .before .before
+
+abbrev else3 : tie.Else4 → tie.Else3
+else3 c = c .before
+
+abbrev else5 : tie.Else6 → tie.Else5
+else5 c = c .before
+
 module _ (t : ResourceTimeline) (s e u : ℕ) where
   wrong : valid t ≡ false → 15 ≡ bookRefusal t s e u
   unfolding bookRefusal
@@ -68,19 +78,19 @@ returns-3 : tie.Need-returns-3
 returns-3 c = end-out _ _ _ _ (keeps (c .before .before)) (omega arith) (omega arith)
 
 returns-4 : tie.Need-returns-4
-returns-4 c = turned _ _ _ _ (keeps (c .before .before .before)) (omega arith) (omega arith) (omega arith)
+returns-4 c = turned _ _ _ _ (keeps (else1 (c .before))) (omega arith) (omega arith) (omega arith)
 
 returns-5 : tie.Need-returns-5
-returns-5 c = too-few _ _ _ _ (keeps (c .before .before .before .before)) (omega arith) (omega arith) (omega arith) (omega arith)
+returns-5 c = too-few _ _ _ _ (keeps (else1 (else3 (c .before)))) (omega arith) (omega arith) (omega arith) (omega arith)
 
 returns-6 : tie.Need-returns-6
-returns-6 c = too-many _ _ _ _ (keeps (c .before .before .before .before .before)) (omega arith) (omega arith) (omega arith) (omega arith) (omega arith)
+returns-6 c = too-many _ _ _ _ (keeps (else1 (else3 (c .before .before)))) (omega arith) (omega arith) (omega arith) (omega arith) (omega arith)
 
 returns-7 : tie.Need-returns-7
-returns-7 c = full _ _ _ _ (keeps (c .before .before .before .before .before .before .before)) (omega arith) (omega arith) (omega arith) (omega arith) (omega arith) (omega arith)
+returns-7 c = full _ _ _ _ (keeps (else1 (else3 (else5 (c .before .before) .before)))) (omega arith) (omega arith) (omega arith) (omega arith) (omega arith) (omega arith)
 
 returns-8 : tie.Need-returns-8
-returns-8 c = none _ _ _ _ (keeps (c .before .before .before .before .before .before .before)) (omega arith) (omega arith) (omega arith) (omega arith) (omega arith) (omega arith)
+returns-8 c = none _ _ _ _ (keeps (else1 (else3 (else5 (c .before .before) .before)))) (omega arith) (omega arith) (omega arith) (omega arith) (omega arith) (omega arith)
 
 pub book-refusal-spec : {M : Type 1} → statement M
 book-refusal-spec =

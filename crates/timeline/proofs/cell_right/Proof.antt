@@ -5,6 +5,13 @@ use Rattle.timeline.specs.Valid.{cellRight}
 use Rattle.timeline.proofs.cell_right.Statement.{statement}
 use Rattle.timeline.proofs.cell_right.Tie as tie
 
+-- the places that the proof looks back to, each from the next one
+abbrev else1 : tie.Else3 → tie.Else1
+else1 c = c .before .before
+
+abbrev else3 : tie.Else4 → tie.Else3
+else3 c = c .before
+
 returns : tie.Need-returns
 unfolding cellRight
 returns c = simp (le-ltb _ _ (c .if1 .taken))
@@ -21,7 +28,7 @@ returns-4 : tie.Need-returns-4
 unfolding cellRight
 returns-4 c =
     simp (
-      lt-ltb _ _ (c .before .before .before .if1 .left),
+      lt-ltb _ _ (else1 (c .before) .if1 .left),
       le-leb _ _ (c .before .before .if2 .left),
       le-leb _ _ (c .before .if3 .left),
       lt-leb _ _ (c .if4 .taken),
@@ -30,10 +37,11 @@ returns-4 c =
 returns-5 : tie.Need-returns-5
 unfolding cellRight
 returns-5 c =
+    let e3 = else3 (c .before) in
     simp (
-      lt-ltb _ _ (c .before .before .before .before .if1 .left),
-      le-leb _ _ (c .before .before .before .if2 .left),
-      le-leb _ _ (c .before .before .if3 .left),
+      lt-ltb _ _ (else1 e3 .if1 .left),
+      le-leb _ _ (e3 .before .if2 .left),
+      le-leb _ _ (e3 .if3 .left),
       le-leb _ _ (c .before .if4 .left),
       lt-leb _ _ (c .if5 .taken),
     )
@@ -41,11 +49,12 @@ returns-5 c =
 returns-6 : tie.Need-returns-6
 unfolding cellRight
 returns-6 c =
-    let d = c .before .before .before .before .before in
+    let e3 = else3 (c .before .before) in
+    let d = else1 e3 in
     simp (
       lt-ltb _ _ (d .if1 .left),
-      le-leb _ _ (c .before .before .before .before .if2 .left),
-      le-leb _ _ (c .before .before .before .if3 .left),
+      le-leb _ _ (e3 .before .if2 .left),
+      le-leb _ _ (e3 .if3 .left),
       le-leb _ _ (c .before .before .if4 .left),
       le-leb _ _ (c .before .if5 .left),
       max-eq-right (c .if6 .taken),
@@ -54,11 +63,12 @@ returns-6 c =
 returns-7 : tie.Need-returns-7
 unfolding cellRight
 returns-7 c =
-    let d = c .before .before .before .before .before in
+    let e3 = else3 (c .before .before) in
+    let d = else1 e3 in
     simp (
       lt-ltb _ _ (d .if1 .left),
-      le-leb _ _ (c .before .before .before .before .if2 .left),
-      le-leb _ _ (c .before .before .before .if3 .left),
+      le-leb _ _ (e3 .before .if2 .left),
+      le-leb _ _ (e3 .if3 .left),
       le-leb _ _ (c .before .before .if4 .left),
       le-leb _ _ (c .before .if5 .left),
       max-eq-left (le-of-lt (c .if6 .left)),

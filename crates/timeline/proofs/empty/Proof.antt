@@ -16,6 +16,10 @@ Inv-loop t i₀ i =
 abbrev μ-loop : tie.MeasureT-loop
 μ-loop t i₀ i = 64 - i
 
+-- the places that the proof looks back to, each from the next one
+abbrev in-loop : tie.After-cell-empty Inv-loop μ-loop → tie.In-loop Inv-loop μ-loop
+in-loop c = c .before .before .before .before .before
+
 loop-holds : tie.Need-loop-holds Inv-loop μ-loop
 loop-holds c = (c .pre, refl)
 
@@ -49,7 +53,7 @@ cell-empty-requires c κs = search needs
 returns : tie.Need-returns Inv-loop μ-loop
 returns c =
     let e = sym (c .before .cell-empty .ensures) ∙ not-true _ (c .if1 .taken) in
-    let d = c .before .before .before .before .before .before in
+    let d = in-loop (c .before) in
     from-stop _ (d .before .loop .inv .1) (d .loop-test .taken) e
 
 add-i : tie.Need-add-i Inv-loop μ-loop
@@ -61,7 +65,7 @@ loop-less c = search needs
 loop-again : tie.Need-loop-again Inv-loop μ-loop
 loop-again c =
     let e = sym (c .before .cell-empty .ensures) ∙ not-false _ (c .if1 .left) in
-    let d = c .before .before .before .before .before .before in
+    let d = in-loop (c .before) in
     (omega arith, from-more _ (d .before .loop .inv .1) (d .loop-test .taken) e)
 
 returns-2 : tie.Need-returns-2 Inv-loop μ-loop

@@ -26,17 +26,24 @@ Inv-loop t len ps₀ pl₀ sum₀ i₀ ps pl sum i =
 abbrev μ-loop : tie.MeasureT-loop
 μ-loop t len ps₀ pl₀ sum₀ i₀ ps pl sum i = len - i
 
+-- the places that the proof looks back to, each from the next one
+abbrev start : tie.In-loop Inv-loop μ-loop → tie.Start Inv-loop μ-loop
+start c = c .before .before
+
+abbrev in-loop : tie.After-cell-right Inv-loop μ-loop → tie.In-loop Inv-loop μ-loop
+in-loop c = c .before .before .before .before .before
+
 -- what the rules say of the cell at hand
 facts : (c : tie.Else1 Inv-loop μ-loop)
-    → let t = c .before .before .before .before .before .before .before .before .args .t1 in
-    let i = c .before .before .before .before .before .before .before .loop .i in
-    CellFacts (getD (t .starts) i 0) (getD (t .ends) i 0) (getD (t .units) i 0) (getD (t .latest) i 0) (c .before .before .before .before .before .before .before .loop .ps) (c .before .before .before .before .before .before .before .loop .pl)
+    → let t = start (in-loop (c .before)) .args .t1 in
+    let i = in-loop (c .before) .before .loop .i in
+    CellFacts (getD (t .starts) i 0) (getD (t .ends) i 0) (getD (t .units) i 0) (getD (t .latest) i 0) (in-loop (c .before) .before .loop .ps) (in-loop (c .before) .before .loop .pl)
 facts c = cell-facts _ _ _ _ _ _ (sym (c .before .cell-right .ensures) ∙ not-false _ (c .if1 .left))
 
 -- the cell's part of the total is small
 small : (c : tie.Else1 Inv-loop μ-loop)
-    → let t = c .before .before .before .before .before .before .before .before .args .t1 in
-    let i = c .before .before .before .before .before .before .before .loop .i in
+    → let t = start (in-loop (c .before)) .args .t1 in
+    let i = in-loop (c .before) .before .loop .i in
     (getD (t .ends) i 0 - getD (t .starts) i 0) * getD (t .units) i 0 ≤ 43980465111040000
 small c = weight-le _ _ _ (facts c .range) (facts c .few)
 
@@ -74,8 +81,8 @@ cell-right-requires c κs = search needs
 returns : tie.Need-returns Inv-loop μ-loop
 returns c =
     let e = sym (c .before .cell-right .ensures) ∙ not-true _ (c .if1 .taken) in
-    let d = c .before .before .before .before .before .before in
-    let t = d .before .before .args .t1 in
+    let d = in-loop (c .before) in
+    let t = start d .args .t1 in
     let f : false ≡ filledFrom t 0 (t .len) = from-stop _ (d .before .loop .inv .5) (d .loop-test .taken) (rw (← d .before .loop .inv .3, ← d .before .loop .inv .4) e) in
     rw (← f) refl
 
@@ -104,9 +111,9 @@ loop-less c = search needs
 loop-again : tie.Need-loop-again Inv-loop μ-loop
 loop-again c =
     let e = sym (c .before .cell-right .ensures) ∙ not-false _ (c .if1 .left) in
-    let d = c .before .before .before .before .before .before in
+    let d = in-loop (c .before) in
     let i = d .before .loop .i in
-    let t = d .before .before .args .t1 in
+    let t = start d .args .t1 in
     (refl, omega arith, omega arith, before-step _ _, before-step _ _, from-more _ (d .before .loop .inv .5) (d .loop-test .taken) (rw (← d .before .loop .inv .3, ← d .before .loop .inv .4) e), cc (rows-step (t .starts) (t .ends) (t .units) i, total-snoc (bookingsTo (t .starts) (t .ends) (t .units) i) (bookingAt (t .starts) (t .ends) (t .units) i)), omega (arith, small c))
 
 returns-2 : tie.Need-returns-2 Inv-loop μ-loop
