@@ -159,7 +159,7 @@ fn resource_right(r: Resource) -> bool
     last_right(last)
 }
 
-// Capacity 0 and nothing in it, and else the rules of a diary, so that every cell of it is 0.
+// Capacity 0 and nothing in it; and with a capacity it would keep the rules of a diary, so that every cell of it is 0.
 fn diary_blank(t: ResourceTimeline) -> bool
     ensures { λ r. ⌜ r ≡ diaryBlank t ⌝ }
 {
@@ -178,7 +178,9 @@ fn diary_blank(t: ResourceTimeline) -> bool
     if blocks.len != 0 {
         return false;
     }
-    timeline::contents_right(t)
+    let mut d = t;
+    d.capacity = 1;
+    timeline::is_valid(d)
 }
 
 fn last_blank(last: LastCategory) -> bool

@@ -10,7 +10,7 @@ pub mod same;
 ghost use mathlib.Core.Path.{_≡_};
 ghost use mathlib.Core.Bool.{true, _&&_};
 ghost use Prim.Native.Nat.{_-_, _^_, _≤_, _<_};
-ghost use Rattle.timeline.specs.Valid.{cellRight, cellEmpty, filledFrom, emptyFrom, cellsRight, contentsRight, valid};
+ghost use Rattle.timeline.specs.Valid.{cellRight, cellEmpty, filledFrom, emptyFrom, cellsRight, valid};
 ghost use Rattle.timeline.specs.Bookings.{bookings, total};
 ghost use lib.Dec.{eqb};
 ghost use mathlib.Core.List.{[]};
@@ -126,30 +126,23 @@ fn cells_right(t: ResourceTimeline) -> bool
     empty(t)
 }
 
-// The diary keeps the rules but for the capacity's.
-pub fn contents_right(t: ResourceTimeline) -> bool
-    ensures { λ r. ⌜ r ≡ contentsRight t ⌝ }
-{
-    if !calendar::is_valid(t.calendar) {
-        return false;
-    }
-    if t.len > 64 {
-        return false;
-    }
-    cells_right(t)
-}
-
 // The diary keeps the rules.
 pub fn is_valid(t: ResourceTimeline) -> bool
     ensures { λ r. ⌜ r ≡ valid t ⌝ }
 {
+    if !calendar::is_valid(t.calendar) {
+        return false;
+    }
     if t.capacity < 1 {
         return false;
     }
     if t.capacity >= 2147483648 {
         return false;
     }
-    contents_right(t)
+    if t.len > 64 {
+        return false;
+    }
+    cells_right(t)
 }
 
 // A given capacity, and at least 1.

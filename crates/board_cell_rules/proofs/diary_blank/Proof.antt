@@ -1,6 +1,7 @@
 -- `board_cell_rules::diary_blank` meets its contract: each return rewrites with the tests on its way.
 use borrow.Author.Needs.{needs}
 use borrow.Author.Tests.{eq-eqb, ne-eqb}
+use Rattle.timeline.specs.Valid as timeline
 use Rattle.board.specs.Valid.{diaryBlank}
 use Rattle.board_cell_rules.proofs.diary_blank.Statement.{statement}
 use Rattle.board_cell_rules.proofs.diary_blank.Tie as tie
@@ -36,16 +37,16 @@ returns-4 c =
     let d = no-bookings e in
     simp (eq-eqb _ _ (no-capacity d .if1 .left), eq-eqb _ _ (d .if2 .left), eq-eqb _ _ (e .if3 .left), ne-eqb _ _ (c .if4 .taken))
 
-contents-right-requires : tie.Need-contents-right-requires
-contents-right-requires c κs = search needs
+is-valid-requires : tie.Need-is-valid-requires
+is-valid-requires c κs = search needs
 
 returns-5 : tie.Need-returns-5
-unfolding diaryBlank
+unfolding diaryBlank timeline.contentsRight timeline.valid
 returns-5 c =
     let e = no-windows (c .before) in
     let d = no-bookings e in
     rw (eq-eqb _ _ (no-capacity d .if1 .left), eq-eqb _ _ (d .if2 .left), eq-eqb _ _ (e .if3 .left), eq-eqb _ _ (c .before .if4 .left))
-    (c .contents-right .ensures)
+    (c .is-valid .ensures)
 
 pub diary-blank-spec : {M : Type 1} → statement M
-diary-blank-spec = tie.close (tie.spec returns returns-2 returns-3 returns-4 contents-right-requires returns-5)
+diary-blank-spec = tie.close (tie.spec returns returns-2 returns-3 returns-4 is-valid-requires returns-5)
