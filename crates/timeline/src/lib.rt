@@ -13,9 +13,7 @@ ghost use Prim.Native.Nat.{_-_, _^_, _≤_, _<_};
 ghost use Rattle.timeline.specs.Valid.{cellRight, cellEmpty, filledFrom, emptyFrom, cellsRight, valid};
 ghost use Rattle.timeline.specs.Bookings.{bookings, total};
 ghost use lib.Dec.{eqb};
-ghost use mathlib.Core.List.{[]};
-ghost use Rattle.calendar.specs.Add as calendar;
-ghost use Rattle.timeline.specs.Diary.{capacityOf, diary, newDiary, blankDiary};
+ghost use Rattle.timeline.specs.Diary.{capacityOf, newDiary, blankDiary};
 ghost use Rattle.timeline.specs.Book.{bookReply, bookRefusal};
 
 // 01: diary. The booking in cell i is starts[i], ends[i], units[i], and latest[i] the latest end of cells 0 to i (the Rust's
@@ -152,28 +150,13 @@ fn capacity_of(given: i32) -> u32
     if given > 1 { given as u32 } else { 1 }
 }
 
-// A diary without bookings and without a calendar.
-fn unbooked(capacity: u32) -> ResourceTimeline
-    ensures { λ r. ⌜ r ≡ diary capacity calendar.empty [] ⌝ }
-{
-    let none = Calendar::new();
-    ResourceTimeline {
-        capacity: capacity,
-        calendar: none,
-        starts: [0; 64],
-        ends: [0; 64],
-        units: [0; 64],
-        latest: [0; 64],
-        len: 0,
-        booked: 0,
-    }
-}
-
 // 0 throughout, its capacity too: the diary of a cell past the length of a board.
 pub fn blank() -> ResourceTimeline
     ensures { λ r. ⌜ r ≡ blankDiary ⌝ }
 {
-    unbooked(0)
+    let mut t = ResourceTimeline::new(1);
+    t.capacity = 0;
+    t
 }
 
 // The number that refuses a booking, 0 for none.
@@ -210,7 +193,17 @@ impl ResourceTimeline {
         ensures { λ r. ⌜ (r ≡ newDiary given) × (valid r ≡ true) ⌝ }
     {
         let capacity = capacity_of(given);
-        unbooked(capacity)
+        let none = Calendar::new();
+        ResourceTimeline {
+            capacity: capacity,
+            calendar: none,
+            starts: [0; 64],
+            ends: [0; 64],
+            units: [0; 64],
+            latest: [0; 64],
+            len: 0,
+            booked: 0,
+        }
     }
 
     // Books, or refuses: 15 a diary that breaks the rules, 1 an instant, 2 end at or before start, 3 units, 4 a 65th.
