@@ -99,6 +99,12 @@ module _ (b : Board) (hs : List Selection) where
         ∙ sym (map-map (entryOf category own) (heldOf b) (take n hs))
 
 -- the entries and the span of all held together
+pub record Together (b : Board) (a : Activity) (hs : List Selection) (n : ℕ) (p : Parts) (d : ActivityDuration) (es : List Entry) : Type 0 where
+  pub duration : Bounded d
+  pub setups : greatestSetup (take n es) ≤ 2 ^ 36
+  pub span : greatestSetup (take n es) + d .process + d .teardown ≡ spanTogether a (heldTo b hs n)
+  pub whole : take n es ++ map companionEntry (joinEach (map entryNumber (take n es)) [] (take (p .companions .len) (p .companions .numbers))) ≡ entriesOf a (heldTo b hs n)
+
 module _ (b : Board) (a : Activity) (hs : List Selection) (n : ℕ) (p : Parts) (d : ActivityDuration) (es : List Entry) (v : valid b ≡ true) (w : Lawful (a .duration) (a .timings)) (c : a .category ≤ 15) (few : n ≤ 8) (wide : length es ≡ 24) (on-places : OnPlaces b hs n) (parts : Parted b (a .category) hs n p) (e : d ≡ durationOn (a .duration) (a .timings) (take n (p .numbers))) (f : (k : ℕ) → k < n → getD es k noEntry ≡ setupAt p hs (d .setup) k) where
   together : d ≡ durationTogether a (heldTo b hs n)
   unfolding durationTogether
@@ -107,10 +113,10 @@ module _ (b : Board) (a : Activity) (hs : List Selection) (n : ℕ) (p : Parts) 
   entries : take n es ≡ heldEntries (a .category) (durationTogether a (heldTo b hs n) .setup) (heldTo b hs n)
   entries = rw (← together) (entries-are b hs n (omega (arith, parts .held)) (a .category) (d .setup) p es (omega (arith, wide)) parts f)
 
-  pub duration-small : Bounded d
+  duration-small : Bounded d
   duration-small = rw e (duration-bounded (a .duration) (a .timings) (take n (p .numbers)) w (omega (arith, length-take-le n (p .numbers) (omega (arith, parts .long)))))
 
-  pub setups-small : greatestSetup (take n es) ≤ 2 ^ 36
+  setups-small : greatestSetup (take n es) ≤ 2 ^ 36
   unfolding greatestSetup
   setups-small = greatest-most (λ (x : Entry). x .setup) noEntry (take n es) (2 ^ 36) (λ k l. let m : k < n = omega (arith, length-take n es) in rw (getD-take n es k noEntry m) (each k m))
     where
@@ -119,13 +125,16 @@ module _ (b : Board) (a : Activity) (hs : List Selection) (n : ℕ) (p : Parts) 
           let r = resource-of b v (getD hs k noSelection .place) (on-places .stands k l) in
           rw (f k l, parts .setups k l (d .setup)) (setup-small (resourceAt b (getD hs k noSelection .place) .matrix) (resourceAt b (getD hs k noSelection .place) .last) (a .category) (d .setup) (r .matrix) (r .last) c (duration-small .setup-range))
 
-  pub span-is : greatestSetup (take n es) + d .process + d .teardown ≡ spanTogether a (heldTo b hs n)
+  span-is : greatestSetup (take n es) + d .process + d .teardown ≡ spanTogether a (heldTo b hs n)
   unfolding spanTogether spanOf
   span-is = rw (entries, together) refl
 
   numbers : map entryNumber (take n es) ≡ numbersOf (heldTo b hs n)
   numbers = ap (map entryNumber) entries ∙ map-map entryNumber (entryOf (a .category) (durationTogether a (heldTo b hs n) .setup)) (heldTo b hs n)
 
-  pub entries-whole : take n es ++ map companionEntry (joinEach (map entryNumber (take n es)) [] (take (p .companions .len) (p .companions .numbers))) ≡ entriesOf a (heldTo b hs n)
+  entries-whole : take n es ++ map companionEntry (joinEach (map entryNumber (take n es)) [] (take (p .companions .len) (p .companions .numbers))) ≡ entriesOf a (heldTo b hs n)
   unfolding entriesOf companionEntries
   entries-whole = rw (numbers, entries, parts .companions) refl
+
+  pub held-together : Together b a hs n p d es
+  held-together = record { duration = duration-small; setups = setups-small; span = span-is; whole = entries-whole }

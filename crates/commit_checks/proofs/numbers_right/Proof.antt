@@ -19,6 +19,10 @@ Inv-loop slate count places i₀ i = (count ≤ length slate) × (i ≤ count) �
 abbrev μ-loop : tie.MeasureT-loop
 μ-loop slate count places i₀ i = count - i
 
+-- the places that the proof looks back to, each from the next one
+abbrev in-loop : tie.After-number-in Inv-loop μ-loop → tie.In-loop Inv-loop μ-loop
+in-loop c = c .before .before
+
 loop-holds : tie.Need-loop-holds Inv-loop μ-loop
 unfolding every
 loop-holds c = (c .pre, omega arith, refl)
@@ -37,10 +41,11 @@ number-in-requires c κs = search needs
 
 returns : tie.Need-returns Inv-loop μ-loop
 returns c =
-    let a = c .before .before .before .before .before .args in
-    let v = c .before .before .before .before .loop .inv in
-    let i = c .before .before .before .before .loop .i in
-    let l = c .before .before .before .loop-test .taken in
+    let t = in-loop (c .before) in
+    let a = t .before .before .args in
+    let v = t .before .loop .inv in
+    let i = t .before .loop .i in
+    let l = t .loop-test .taken in
     sym (every-off (numbered (a .t3)) [] (a .slate .now) i (a .count) l (v .0) (number-high (a .t3) (getD (a .slate .now) i []) (omega (arith, c .if1 .taken, c .before .number-in .ensures))))
 
 mul-if2 : tie.Need-mul-if2 Inv-loop μ-loop
@@ -51,10 +56,11 @@ array-read-if2 c = search needs
 
 returns-2 : tie.Need-returns-2 Inv-loop μ-loop
 returns-2 c =
-    let a = c .before .before .before .before .before .before .args in
-    let v = c .before .before .before .before .before .loop .inv in
-    let i = c .before .before .before .before .before .loop .i in
-    let l = c .before .before .before .before .loop-test .taken in
+    let t = in-loop (c .before .before) in
+    let a = t .before .before .args in
+    let v = t .before .loop .inv in
+    let i = t .before .loop .i in
+    let l = t .loop-test .taken in
     sym (every-off (numbered (a .t3)) [] (a .slate .now) i (a .count) l (v .0) (number-off (a .t3) (getD (a .slate .now) i []) (rw (c .before .before .number-in .ensures) at (c .if2 .taken))))
 
 add-i : tie.Need-add-i Inv-loop μ-loop
@@ -65,10 +71,11 @@ loop-less c = search needs
 
 loop-again : tie.Need-loop-again Inv-loop μ-loop
 loop-again c =
-    let a = c .before .before .before .before .before .before .args in
-    let v = c .before .before .before .before .before .loop .inv in
-    let i = c .before .before .before .before .before .loop .i in
-    let l = c .before .before .before .before .loop-test .taken in
+    let t = in-loop (c .before .before) in
+    let a = t .before .before .args in
+    let v = t .before .loop .inv in
+    let i = t .before .loop .i in
+    let l = t .loop-test .taken in
     (v .0, omega arith, every-next (numbered (a .t3)) [] (a .slate .now) i (omega (arith, v .0)) (v .2) (number-on (a .t3) (getD (a .slate .now) i []) (omega (arith, c .before .if1 .left, c .before .before .number-in .ensures)) (rw (c .before .before .number-in .ensures) at (c .if2 .left))))
 
 returns-3 : tie.Need-returns-3 Inv-loop μ-loop

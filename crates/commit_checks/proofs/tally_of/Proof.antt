@@ -15,6 +15,10 @@ Inv-loop slate count tally₀ i₀ tally i = (i ≤ count) × (length tally ≡ 
 abbrev μ-loop : tie.MeasureT-loop
 μ-loop slate count tally₀ i₀ tally i = count - i
 
+-- the places that the proof looks back to, each from the next one
+abbrev at-loop : tie.After-number-in Inv-loop μ-loop → tie.At-loop Inv-loop μ-loop
+at-loop c = c .before .before .before
+
 loop-holds : tie.Need-loop-holds Inv-loop μ-loop
 loop-holds c = (omega arith, refl, counted-none (c .args .slate .now))
 
@@ -29,7 +33,7 @@ number-in-requires c κs = search needs
 
 -- row i names a number below 16
 low : (c : tie.After-number-in Inv-loop μ-loop) → c .number-in .result < 16
-low c = rw (c .number-in .ensures) (c .before .before .before .before .pre .1 (c .before .before .before .loop .i) (c .before .before .loop-test .taken))
+low c = rw (c .number-in .ensures) (at-loop c .before .pre .1 (at-loop c .loop .i) (c .before .before .loop-test .taken))
 
 mul-tally : tie.Need-mul-tally Inv-loop μ-loop
 mul-tally c = let w = low c in search needs
@@ -39,12 +43,13 @@ array-read-tally c = let w = low c in search needs
 
 add-tally : tie.Need-add-tally Inv-loop μ-loop
 add-tally c =
-    let a = c .before .before .before .before .args in
-    let v = c .before .before .before .loop .inv in
-    let i = c .before .before .before .loop .i in
+    let l = at-loop c in
+    let a = l .before .args in
+    let v = l .loop .inv in
+    let i = l .loop .i in
     let w = low c in
     let n = c .number-in .result in
-    let small : getD (c .before .before .before .loop .tally) n 0 ≤ i = rw (v .2 n w) (entries-few n i (a .slate .now)) in
+    let small : getD (l .loop .tally) n 0 ≤ i = rw (v .2 n w) (entries-few n i (a .slate .now)) in
     search needs
 
 array-write-tally : tie.Need-array-write-tally Inv-loop μ-loop
@@ -58,12 +63,13 @@ loop-less c = search needs
 
 loop-again : tie.Need-loop-again Inv-loop μ-loop
 loop-again c =
-    let a = c .before .before .before .before .args in
-    let p = c .before .before .before .before .pre in
-    let v = c .before .before .before .loop .inv in
-    let i = c .before .before .before .loop .i in
+    let k = at-loop c in
+    let a = k .before .args in
+    let p = k .before .pre in
+    let v = k .loop .inv in
+    let i = k .loop .i in
     let l = c .before .before .loop-test .taken in
-    (omega arith, length-set (c .before .before .before .loop .tally) _ _ ∙ v .1, rw (c .number-in .ensures) (counted-next (a .slate .now) i (c .before .before .before .loop .tally) (v .1) (omega (arith, p .0)) (p .1 i l) (v .2)))
+    (omega arith, length-set (k .loop .tally) _ _ ∙ v .1, rw (c .number-in .ensures) (counted-next (a .slate .now) i (k .loop .tally) (v .1) (omega (arith, p .0)) (p .1 i l) (v .2)))
 
 returns : tie.Need-returns Inv-loop μ-loop
 returns c =

@@ -19,6 +19,10 @@ Inv-loop slate count i₀ i = (count ≤ length slate) × (i ≤ count) × (ever
 abbrev μ-loop : tie.MeasureT-loop
 μ-loop slate count i₀ i = count - i
 
+-- the places that the proof looks back to, each from the next one
+abbrev in-loop : tie.After-units-in Inv-loop μ-loop → tie.In-loop Inv-loop μ-loop
+in-loop c = c .before .before
+
 loop-holds : tie.Need-loop-holds Inv-loop μ-loop
 unfolding every
 loop-holds c = (c .pre, omega arith, refl)
@@ -37,18 +41,20 @@ units-in-requires c κs = search needs
 
 returns : tie.Need-returns Inv-loop μ-loop
 returns c =
-    let a = c .before .before .before .before .before .args in
-    let v = c .before .before .before .before .loop .inv in
-    let i = c .before .before .before .before .loop .i in
-    let l = c .before .before .before .loop-test .taken in
+    let t = in-loop (c .before) in
+    let a = t .before .before .args in
+    let v = t .before .loop .inv in
+    let i = t .before .loop .i in
+    let l = t .loop-test .taken in
     sym (every-off metered [] (a .slate .now) i (a .count) l (v .0) (units-none (getD (a .slate .now) i []) (omega (arith, c .if1 .taken, c .before .units-in .ensures))))
 
 returns-2 : tie.Need-returns-2 Inv-loop μ-loop
 returns-2 c =
-    let a = c .before .before .before .before .before .before .args in
-    let v = c .before .before .before .before .before .loop .inv in
-    let i = c .before .before .before .before .before .loop .i in
-    let l = c .before .before .before .before .loop-test .taken in
+    let t = in-loop (c .before .before) in
+    let a = t .before .before .args in
+    let v = t .before .loop .inv in
+    let i = t .before .loop .i in
+    let l = t .loop-test .taken in
     sym (every-off metered [] (a .slate .now) i (a .count) l (v .0) (units-many (getD (a .slate .now) i []) (omega (arith, c .if2 .taken, c .before .before .units-in .ensures))))
 
 add-i : tie.Need-add-i Inv-loop μ-loop
@@ -59,10 +65,11 @@ loop-less c = search needs
 
 loop-again : tie.Need-loop-again Inv-loop μ-loop
 loop-again c =
-    let a = c .before .before .before .before .before .before .args in
-    let v = c .before .before .before .before .before .loop .inv in
-    let i = c .before .before .before .before .before .loop .i in
-    let l = c .before .before .before .before .loop-test .taken in
+    let t = in-loop (c .before .before) in
+    let a = t .before .before .args in
+    let v = t .before .loop .inv in
+    let i = t .before .loop .i in
+    let l = t .loop-test .taken in
     (v .0, omega arith, every-next metered [] (a .slate .now) i (omega (arith, v .0)) (v .2) (units-fine (getD (a .slate .now) i []) (omega (arith, c .before .if1 .left, c .before .before .units-in .ensures)) (omega (arith, c .if2 .left, c .before .before .units-in .ensures))))
 
 returns-3 : tie.Need-returns-3 Inv-loop μ-loop

@@ -17,6 +17,19 @@ Inv-loop slate count start end category refusal places board₀ i₀ board i = (
 abbrev μ-loop : tie.MeasureT-loop
 μ-loop slate count start end category refusal places board₀ i₀ board i = count - i
 
+-- the places that the proof looks back to, each from the next one
+abbrev else1 : tie.At-loop Inv-loop μ-loop → tie.Else1 Inv-loop μ-loop
+else1 c = c .before .before
+
+abbrev after-places-of : tie.At-loop Inv-loop μ-loop → tie.After-places-of Inv-loop μ-loop
+after-places-of c = else1 c .before .before
+
+abbrev at-loop : tie.After-number-in Inv-loop μ-loop → tie.At-loop Inv-loop μ-loop
+at-loop c = c .before .before .before
+
+abbrev after-number-in : tie.After-is-companion Inv-loop μ-loop → tie.After-number-in Inv-loop μ-loop
+after-number-in c = c .before .before .before
+
 places-of-requires : tie.Need-places-of-requires Inv-loop μ-loop
 places-of-requires c κs = search needs
 
@@ -25,13 +38,15 @@ commit-refusal-requires c κs = λ e. c .places-of .ensures .1 (sym (c .places-o
 
 returns : tie.Need-returns Inv-loop μ-loop
 returns c =
-    reply-refused _ _ (c .before .commit-refusal .ensures _ (c .before .before .places-of .ensures .0) (λ v. let k = c .before .before .places-of .ensures .1 v in (k .0, k .1))) (c .if1 .taken)
+    let p = c .before .before .places-of .ensures in
+    reply-refused _ _ (c .before .commit-refusal .ensures _ (p .0) (λ v. (p .1 v .0, p .1 v .1))) (c .if1 .taken)
 
 loop-holds : tie.Need-loop-holds Inv-loop μ-loop
 loop-holds c =
-    let p = c .before .before .before .places-of .ensures in
-    let f = fine _ _ (c .before .before .commit-refusal .ensures _ (p .0) (λ v. let k = p .1 v in (k .0, k .1))) (c .before .if1 .left) in
-    (omega arith, left-all _ _ (simp length-map at (c .before .before .before .before .good .0 .1 .1 .0 .1 .0 .1)) (p .1 (f .valid) .0) f)
+    let r = c .before .before in
+    let p = r .before .places-of .ensures in
+    let f = fine _ _ (r .commit-refusal .ensures _ (p .0) (λ v. (p .1 v .0, p .1 v .1))) (c .before .if1 .left) in
+    (omega arith, left-all _ _ (simp length-map at (r .before .before .good .0 .1 .1 .0 .1 .0 .1)) (p .1 (f .valid) .0) f)
 
 mul-row : tie.Need-mul-row Inv-loop μ-loop
 mul-row c = search needs
@@ -46,8 +61,8 @@ number-in-requires : tie.Need-number-in-requires Inv-loop μ-loop
 number-in-requires c κs = search needs
 
 -- the diary that row i names takes its booking
-here : (c : tie.After-number-in Inv-loop μ-loop) → Here (c .before .before .before .loop .board) (c .number-in .result) (getD (c .before .before .before .before .before .before .before .places-of .result .places) (c .number-in .result) 0) (unitsIn (getD (c .before .before .before .before .before .before .before .before .args .slate .now) (c .before .before .before .loop .i) []))
-here c = row-here _ _ _ _ (c .before .before .before .loop .inv .1) (c .before .before .loop-test .taken) _ (c .number-in .ensures)
+here : (c : tie.After-number-in Inv-loop μ-loop) → Here (at-loop c .loop .board) (c .number-in .result) (getD (after-places-of (at-loop c) .places-of .result .places) (c .number-in .result) 0) (unitsIn (getD (after-places-of (at-loop c) .before .args .slate .now) (at-loop c .loop .i) []))
+here c = row-here _ _ _ _ (at-loop c .loop .inv .1) (c .before .before .loop-test .taken) _ (c .number-in .ensures)
 
 mul-place : tie.Need-mul-place Inv-loop μ-loop
 mul-place c = let h = here c in search needs
@@ -72,15 +87,16 @@ is-companion-requires c κs = search needs
 
 book-on-requires : tie.Need-book-on-requires Inv-loop μ-loop
 book-on-requires c κs =
-    let h = here (c .before .before .before) in
+    let n = after-number-in c in
+    let h = here n in
     let u = c .before .units-in .ensures in
-    (h .kept, h .free, left-bookable _ _ _ _ (c .before .before .before .before .before .before .loop .inv .1) (c .before .before .before .before .before .loop-test .taken), (omega (arith, u, h .some), omega (arith, u, h .few)))
+    (h .kept, h .free, left-bookable _ _ _ _ (at-loop n .loop .inv .1) (n .before .before .loop-test .taken), (omega (arith, u, h .some), omega (arith, u, h .few)))
 
 mul-x : tie.Need-mul-x Inv-loop μ-loop
-mul-x c = let h = here (c .before .before .before .before) in omega (arith, h .place-low, h .low)
+mul-x c = let h = here (after-number-in (c .before)) in omega (arith, h .place-low, h .low)
 
 element-set-from-x : tie.Need-element-set-from-x Inv-loop μ-loop
-element-set-from-x c = let h = here (c .before .before .before .before) in omega (arith, h .place-low, h .low)
+element-set-from-x c = let h = here (after-number-in (c .before)) in omega (arith, h .place-low, h .low)
 
 add-i : tie.Need-add-i Inv-loop μ-loop
 add-i c = search needs
@@ -90,13 +106,15 @@ loop-less c = search needs
 
 loop-again : tie.Need-loop-again Inv-loop μ-loop
 loop-again c =
-    let v = c .before .before .before .before .before .before .before .loop .inv in
-    (omega arith, row-next _ _ _ _ (v .1) (c .before .before .before .before .before .before .loop-test .taken) _ (c .before .before .before .before .number-in .ensures) _ _ (c .before .before .units-in .ensures) (c .before .is-companion .ensures) (c .book-on .result) _ (c .book-on .ensures))
+    let n = after-number-in (c .before) in
+    let v = at-loop n .loop .inv in
+    (omega arith, row-next _ _ _ _ (v .1) (n .before .before .loop-test .taken) _ (n .number-in .ensures) _ _ (c .before .before .units-in .ensures) (c .before .is-companion .ensures) (c .book-on .result) _ (c .book-on .ensures))
 
 returns-2 : tie.Need-returns-2 Inv-loop μ-loop
 returns-2 c =
-    let p = c .before .before .before .before .before .places-of .ensures in
-    reply-taken _ _ _ (c .before .before .before .before .commit-refusal .ensures _ (p .0) (λ v. let k = p .1 v in (k .0, k .1))) (c .before .before .before .if1 .left) (left-none _ _ _ _ (c .before .loop .inv .1) (c .loop-test .left))
+    let e = else1 (c .before) in
+    let p = e .before .before .places-of .ensures in
+    reply-taken _ _ _ (e .before .commit-refusal .ensures _ (p .0) (λ v. (p .1 v .0, p .1 v .1))) (e .if1 .left) (left-none _ _ _ _ (c .before .loop .inv .1) (c .loop-test .left))
 
 pub commit-spec : {M : Type 1} → statement M
 commit-spec =

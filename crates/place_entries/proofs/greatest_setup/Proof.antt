@@ -19,6 +19,10 @@ Inv-loop e n most₀ i₀ most i = (n ≤ 24) × (i ≤ n) × (length (e .entrie
 abbrev μ-loop : tie.MeasureT-loop
 μ-loop e n most₀ i₀ most i = n - i
 
+-- the places that the proof looks back to, each from the next one
+abbrev in-loop : tie.Joined1 Inv-loop μ-loop → tie.In-loop Inv-loop μ-loop
+in-loop c = c .before .before .before
+
 loop-holds : tie.Need-loop-holds Inv-loop μ-loop
 unfolding greatestSetup greatestOf
 loop-holds c = (c .pre, omega arith, simp length-map at (c .good .0 .1 .1 .0 .1 .0 .1), refl)
@@ -37,9 +41,10 @@ loop-less c = search needs
 
 loop-again : tie.Need-loop-again Inv-loop μ-loop
 loop-again c =
-    let v = c .before .before .before .before .loop .inv in
-    let l = c .before .before .before .loop-test .taken in
-    let w = greatest-next (c .before .before .before .before .before .args .t1 .entries) (c .before .before .before .before .loop .i) (omega (arith, v .2, v .0)) in
+    let t = in-loop c in
+    let v = t .before .loop .inv in
+    let l = t .loop-test .taken in
+    let w = greatest-next (t .before .before .args .t1 .entries) (t .before .loop .i) (omega (arith, v .2, v .0)) in
     (v .0, omega arith, v .2, ⊎-elim (λ w1. omega (arith, v .3, w)) (λ w1. omega (arith, v .3, w)) (c .if1 .came))
 
 returns : tie.Need-returns Inv-loop μ-loop

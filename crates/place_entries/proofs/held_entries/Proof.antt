@@ -21,6 +21,13 @@ Inv-loop count own held numbers matrices setups e₀ i₀ e i = (i ≤ count) ×
 abbrev μ-loop : tie.MeasureT-loop
 μ-loop count own held numbers matrices setups e₀ i₀ e i = count - i
 
+-- the places that the proof looks back to, each from the next one
+abbrev start : tie.At-loop Inv-loop μ-loop → tie.Start Inv-loop μ-loop
+start c = c .before .before .before .before .before
+
+abbrev in-loop : tie.After-held-entry Inv-loop μ-loop → tie.In-loop Inv-loop μ-loop
+in-loop c = c .before .before .before
+
 no-entries-requires : tie.Need-no-entries-requires Inv-loop μ-loop
 no-entries-requires c κs = search needs
 
@@ -62,17 +69,19 @@ loop-less c = search needs
 
 loop-again : tie.Need-loop-again Inv-loop μ-loop
 loop-again c =
-    let v = c .before .before .before .before .loop .inv in
-    let l = c .before .before .before .loop-test .taken in
-    let a = c .before .before .before .before .before .before .before .before .before .args in
-    let i = c .before .before .before .before .loop .i in
-    (omega arith, length-set (c .before .before .before .before .loop .e .entries) i _ ∙ v .1, filled-next (setupAt (a .p) (a .t2) (a .own)) (c .before .before .before .before .loop .e .entries) i _ noEntry (omega (arith, v .1, c .before .before .before .before .before .before .before .before .before .pre)) (v .2) (c .held-entry .ensures ∙ entry-kept (a .p) (a .t2) (a .own) i _ (⊎-elim (λ w. kept-true _ _ _ _ (w .0 .taken) (w .1)) (λ w. kept-false _ _ _ _ (w .0 .left) (w .1)) (c .before .if1 .came))))
+    let t = in-loop c in
+    let s = start (t .before) in
+    let v = t .before .loop .inv in
+    let l = t .loop-test .taken in
+    let a = s .args in
+    let i = t .before .loop .i in
+    (omega arith, length-set (t .before .loop .e .entries) i _ ∙ v .1, filled-next (setupAt (a .p) (a .t2) (a .own)) (t .before .loop .e .entries) i _ noEntry (omega (arith, v .1, s .pre)) (v .2) (c .held-entry .ensures ∙ entry-kept (a .p) (a .t2) (a .own) i _ (⊎-elim (λ w. kept-true _ _ _ _ (w .0 .taken) (w .1)) (λ w. kept-false _ _ _ _ (w .0 .left) (w .1)) (c .before .if1 .came))))
 
 returns : tie.Need-returns Inv-loop μ-loop
 returns c =
     let v = c .before .loop .inv in
     let l = c .loop-test .left in
-    let z : c .before .loop .i ≡ c .before .before .before .before .before .before .args .count = omega arith in
+    let z : c .before .loop .i ≡ start (c .before) .args .count = omega arith in
     (refl, v .1, rw z at (v .2))
 
 pub held-entries-spec : {M : Type 1} → statement M

@@ -33,6 +33,13 @@ Inv-loop count plans held numbers₀ matrices₀ setups₀ list₀ i₀ numbers 
 abbrev μ-loop : tie.MeasureT-loop
 μ-loop count plans held numbers₀ matrices₀ setups₀ list₀ i₀ numbers matrices setups list i = count - i
 
+-- the places that the proof looks back to, each from the next one
+abbrev start : tie.In-loop Inv-loop μ-loop → tie.Start Inv-loop μ-loop
+start c = c .before .before
+
+abbrev in-loop : tie.After-companions Inv-loop μ-loop → tie.In-loop Inv-loop μ-loop
+in-loop c = c .before .before .before
+
 loop-holds : tie.Need-loop-holds Inv-loop μ-loop
 unfolding allCompanions
 loop-holds c = (omega arith, refl, refl, refl, search needs, λ k l. absurd (omega arith), λ k l own. absurd (omega arith), omega arith, each-end, λ b a ready t. refl)
@@ -45,12 +52,12 @@ array-copy-out-h c = search needs
 
 mul-p : tie.Need-mul-p Inv-loop μ-loop
 mul-p c =
-    let t = c .before .before .before .pre .1 in
+    let t = start (c .before) .pre .1 in
     record { fits = omega (arith, t .3 .places .stands (c .before .before .loop .i) (c .before .loop-test .taken), rules (t .0) (t .3 .right) .few) }
 
 array-copy-out-p : tie.Need-array-copy-out-p Inv-loop μ-loop
 array-copy-out-p c =
-    let t = c .before .before .before .pre .1 in
+    let t = start (c .before) .pre .1 in
     omega (arith, t .3 .places .stands (c .before .before .loop .i) (c .before .loop-test .taken), rules (t .0) (t .3 .right) .few)
 
 array-write-numbers : tie.Need-array-write-numbers Inv-loop μ-loop
@@ -67,10 +74,11 @@ array-write-setups c = search needs
 
 push-each-requires : tie.Need-push-each-requires Inv-loop μ-loop
 push-each-requires c κs =
-    let t = c .before .before .before .before .before .pre .1 in
-    let v = c .before .before .before .before .loop .inv in
-    let r = plan-companions (t .0) (t .1) (t .2) _ _ _ (t .3) (c .before .before .before .before .loop .i) (c .before .before .before .loop-test .taken) in
-    (r .0, omega (arith, r .0, v .0, c .before .before .before .before .before .pre .0, v .7), v .8, r .1)
+    let turn = in-loop c in
+    let t = start turn .pre .1 in
+    let v = turn .before .loop .inv in
+    let r = plan-companions (t .0) (t .1) (t .2) _ _ _ (t .3) (turn .before .loop .i) (turn .loop-test .taken) in
+    (r .0, omega (arith, r .0, v .0, start turn .pre .0, v .7), v .8, r .1)
 
 add-i : tie.Need-add-i Inv-loop μ-loop
 add-i c = search needs
@@ -81,22 +89,23 @@ loop-less c = search needs
 loop-again : tie.Need-loop-again Inv-loop μ-loop
 unfolding planWith
 loop-again c =
-    let d = c .before .before .before .before .before .before in
+    let turn = in-loop (c .before) in
+    let d = start turn in
     let t = d .pre .1 in
-    let v = c .before .before .before .before .before .loop .inv in
-    let i = c .before .before .before .before .before .loop .i in
-    let l = c .before .before .before .before .loop-test .taken in
+    let v = turn .before .loop .inv in
+    let i = turn .before .loop .i in
+    let l = turn .loop-test .taken in
     let plans = d .args .t1 in
     let held = d .args .t2 in
     let r = plan-companions (t .0) (t .1) (t .2) plans held (d .args .count) (t .3) i l in
     let e = c .push-each .ensures in (
       omega arith,
-      length-set (c .before .before .before .before .before .loop .numbers) i _ ∙ v .1,
-      length-set (c .before .before .before .before .before .loop .matrices) i _ ∙ v .2,
-      length-set (c .before .before .before .before .before .loop .setups) i _ ∙ v .3,
+      length-set (turn .before .loop .numbers) i _ ∙ v .1,
+      length-set (turn .before .loop .matrices) i _ ∙ v .2,
+      length-set (turn .before .loop .setups) i _ ∙ v .3,
       v .4,
-      filled-next (λ k. getD plans (getD held k noSelection .place) noPlan .number) (c .before .before .before .before .before .loop .numbers) i _ 0 (omega (arith, v .1)) (v .5) refl,
-      kept-next (c .before .before .before .before .before .loop .matrices) (c .before .before .before .before .before .loop .setups) i _ _ (λ k own. cond (getD plans (getD held k noSelection .place) noPlan .matrix) (getD plans (getD held k noSelection .place) noPlan .setup) own) (omega (arith, v .2)) (omega (arith, v .3)) (v .6) (λ own. refl),
+      filled-next (λ k. getD plans (getD held k noSelection .place) noPlan .number) (turn .before .loop .numbers) i _ 0 (omega (arith, v .1)) (v .5) refl,
+      kept-next (turn .before .loop .matrices) (turn .before .loop .setups) i _ _ (λ k own. cond (getD plans (getD held k noSelection .place) noPlan .matrix) (getD plans (getD held k noSelection .place) noPlan .setup) own) (omega (arith, v .2)) (omega (arith, v .3)) (v .6) (λ own. refl),
       omega (arith, e .0, v .7, r .0),
       e .2,
       λ b a ready u.

@@ -6,6 +6,10 @@ use mathlib.Core.Path.{refl, sym, _∙_}
 use borrow.Author.Tests.{not-true, not-false, lt-ltb, le-ltb}
 use Rattle.scheduler.specs.Placing.{placeRefusal}
 
+-- the places that the proof looks back to, each from the next one
+abbrev else1 : tie.After-is-valid → tie.Else1
+else1 c = c .before .before
+
 returns : tie.Need-returns
 unfolding placeRefusal
 returns c = λ b v. rw (sym v ∙ not-true _ (c .if1 .taken)) refl
@@ -17,13 +21,13 @@ returns-2 : tie.Need-returns-2
 unfolding placeRefusal
 returns-2 c =
     let e = sym (c .before .is-valid .ensures) ∙ not-true _ (c .if2 .taken) in
-    λ b v. rw (sym v ∙ not-false _ (c .before .before .before .if1 .left), e) refl
+    λ b v. rw (sym v ∙ not-false _ (else1 (c .before) .if1 .left), e) refl
 
 returns-3 : tie.Need-returns-3
 unfolding placeRefusal
 returns-3 c =
     let e = sym (c .before .before .is-valid .ensures) ∙ not-false _ (c .before .if2 .left) in
-    λ b v. rw (sym v ∙ not-false _ (c .before .before .before .before .if1 .left), e, lt-ltb _ 24 (c .if3 .taken)) refl
+    λ b v. rw (sym v ∙ not-false _ (else1 (c .before .before) .if1 .left), e, lt-ltb _ 24 (c .if3 .taken)) refl
 
 refusal-requires : tie.Need-refusal-requires
 refusal-requires c κs = search needs
@@ -31,8 +35,9 @@ refusal-requires c κs = search needs
 returns-4 : tie.Need-returns-4
 unfolding placeRefusal
 returns-4 c =
-    let e = sym (c .before .before .before .is-valid .ensures) ∙ not-false _ (c .before .before .if2 .left) in
-    λ b v. rw (sym v ∙ not-false _ (c .before .before .before .before .before .if1 .left), e, le-ltb _ 24 (c .before .if3 .left)) (c .refusal .ensures)
+    let d = c .before .before in
+    let e = sym (d .before .is-valid .ensures) ∙ not-false _ (d .if2 .left) in
+    λ b v. rw (sym v ∙ not-false _ (else1 (d .before) .if1 .left), e, le-ltb _ 24 (c .before .if3 .left)) (c .refusal .ensures)
 
 pub place-refusal-spec : {M : Type 1} → statement M
 place-refusal-spec =

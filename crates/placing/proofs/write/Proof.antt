@@ -37,9 +37,10 @@ mul-row c = search needs
 -- src/lib.rt:58:9
 slice-set-from-row : tie.Need-slice-set-from-row Inv-loop μ-loop
 slice-set-from-row c =
-    let v = c .before .before .before .loop .inv in
-    let l = c .before .before .loop-test .taken in
-    omega (arith, ap length (v .4), written-long (c .before .before .before .before .args .t2 .entries) (c .before .before .before .before .args .slate .now) (c .before .before .before .loop .i) (omega (arith, v .2, v .0)) (omega (arith, v .3, v .0)))
+    let t = c .before .before in
+    let v = t .before .loop .inv in
+    let l = t .loop-test .taken in
+    omega (arith, ap length (v .4), written-long (t .before .before .args .t2 .entries) (t .before .before .args .slate .now) (t .before .loop .i) (omega (arith, v .2, v .0)) (omega (arith, v .3, v .0)))
 
 -- src/lib.rt:59:9
 add-i : tie.Need-add-i Inv-loop μ-loop
@@ -52,11 +53,12 @@ loop-less c = search needs
 -- src/lib.rt:55:5
 loop-again : tie.Need-loop-again Inv-loop μ-loop
 loop-again c =
-    let v = c .before .before .before .loop .inv in
-    let l = c .before .before .loop-test .taken in
-    let i = c .before .before .before .loop .i in
-    let es = c .before .before .before .before .args .t2 .entries in
-    (v .0, omega arith, v .2, v .3, rw (v .4, c .row-of .ensures) (written-next es (c .before .before .before .before .args .slate .now) i (omega (arith, v .2, v .0)) (omega (arith, v .3, v .0))))
+    let t = c .before .before in
+    let v = t .before .loop .inv in
+    let l = t .loop-test .taken in
+    let i = t .before .loop .i in
+    let es = t .before .before .args .t2 .entries in
+    (v .0, omega arith, v .2, v .3, rw (v .4, c .row-of .ensures) (written-next es (t .before .before .args .slate .now) i (omega (arith, v .2, v .0)) (omega (arith, v .3, v .0))))
 
 -- src/lib.rt:49:1
 same-length : tie.Need-same-length Inv-loop μ-loop

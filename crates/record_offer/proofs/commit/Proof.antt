@@ -24,7 +24,9 @@ commit-requires : tie.Need-commit-requires
 commit-requires c κs = search needs
 
 returns : tie.Need-returns
-returns c = commits _ _ _ _ _ _ _ _ _ (c .before .before .before .before .before .number .ensures .0) (c .before .before .before .before .number2 .ensures .0) (c .before .before .before .number3 .ensures .0) (c .before .commit .ensures) refl
+returns c =
+    let n = c .before .before .before in
+    commits _ _ _ _ _ _ _ _ _ (n .before .before .number .ensures .0) (n .before .number2 .ensures .0) (n .number3 .ensures .0) (c .before .commit .ensures) refl
 
 pub commit-spec : {M : Type 1} → statement M
 commit-spec =

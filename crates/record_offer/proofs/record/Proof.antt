@@ -9,6 +9,19 @@ use Rattle.record_offer.proofs.Offering.{turn-none, turn-unknown, turn-
 use Rattle.record_offer.proofs.record.Statement.{statement}
 use Rattle.record_offer.proofs.record.Tie as tie
 
+-- the places that the proof looks back to, each from the next one
+abbrev start : tie.After-offer-len → tie.Start
+start c = c .before .before .before .before
+
+abbrev len-at-place : tie.After-place-arg → tie.After-offer-len
+len-at-place c = c .before .before .before
+
+abbrev len-at-commit : tie.After-commit-arg → tie.After-offer-len
+len-at-commit c = c .before .before .before .before
+
+abbrev len-at-step : tie.Else4 → tie.After-offer-len
+len-at-step c = c .before .before .before
+
 last-requires : tie.Need-last-requires
 last-requires c κs = search needs
 
@@ -34,7 +47,9 @@ add-place : tie.Need-add-place
 add-place c = search needs
 
 place-requires : tie.Need-place-requires
-place-requires c κs = omega (arith, (let a = c .before .before .before .before .before .before .before .args in placing-room (byte (a .bytes .now) (a .at)) (a .bytes .now) (a .at + 1) (a .len) (c .before .before .before .offer-len .result) (omega arith) (c .before .before .before .offer-len .ensures .0) (λ e. omega arith) (omega arith)))
+place-requires c κs =
+    let o = len-at-place c in
+    omega (arith, (let a = start o .args in placing-room (byte (a .bytes .now) (a .at)) (a .bytes .now) (a .at + 1) (a .len) (o .offer-len .result) (omega arith) (o .offer-len .ensures .0) (λ e. omega arith) (omega arith)))
 
 add-t17 : tie.Need-add-t17
 add-t17 c = search needs
@@ -46,13 +61,18 @@ same-length : tie.Need-same-length
 same-length c = search needs
 
 returns-3 : tie.Need-returns-3
-returns-3 c = turn-placed _ _ _ _ _ _ _ _ (omega arith) (c .before .before .before .before .before .offer-len .ensures .0) (λ e. omega arith) (omega (arith, c .before .before .before .before .before .offer-len .ensures .1)) _ (omega arith) (c .before .place .ensures .0) (c .before .place .ensures .1) refl
+returns-3 c =
+    let p = c .before in
+    let o = len-at-place (p .before) .offer-len .ensures in
+    turn-placed _ _ _ _ _ _ _ _ (omega arith) (o .0) (λ e. omega arith) (omega (arith, o .1)) _ (omega arith) (p .place .ensures .0) (p .place .ensures .1) refl
 
 add-commit : tie.Need-add-commit
 add-commit c = search needs
 
 commit-requires : tie.Need-commit-requires
-commit-requires c κs = omega (arith, (let a = c .before .before .before .before .before .before .before .before .args in committing-room (byte (a .bytes .now) (a .at)) (a .bytes .now) (a .at + 1) (a .len) (c .before .before .before .before .offer-len .result) (omega arith) (c .before .before .before .before .offer-len .ensures .0) (λ e. omega arith) (omega arith)))
+commit-requires c κs =
+    let o = len-at-commit c in
+    omega (arith, (let a = start o .args in committing-room (byte (a .bytes .now) (a .at)) (a .bytes .now) (a .at + 1) (a .len) (o .offer-len .result) (omega arith) (o .offer-len .ensures .0) (λ e. omega arith) (omega arith)))
 
 add-told : tie.Need-add-told
 add-told c = search needs
@@ -67,13 +87,19 @@ same-length-2 : tie.Need-same-length-2
 same-length-2 c = search needs
 
 returns-4 : tie.Need-returns-4
-returns-4 c = turn-committed _ _ _ _ _ _ _ _ (omega arith) (c .before .before .before .before .before .before .offer-len .ensures .0) (λ e. omega arith) (omega (arith, c .before .before .before .before .before .before .offer-len .ensures .1)) _ (omega arith) (c .before .commit .ensures) refl (c .told .ensures)
+returns-4 c =
+    let o = len-at-commit (c .before .before) .offer-len .ensures in
+    turn-committed _ _ _ _ _ _ _ _ (omega arith) (o .0) (λ e. omega arith) (omega (arith, o .1)) _ (omega arith) (c .before .commit .ensures) refl (c .told .ensures)
 
 add-step : tie.Need-add-step
 add-step c = search needs
 
 step-requires : tie.Need-step-requires
-step-requires c κs = let a = c .before .before .before .before .before .before .before .args in let t = other-room (byte (a .bytes .now) (a .at)) (a .bytes .now) (a .at + 1) (a .len) (c .before .before .before .offer-len .result) (omega arith) (c .before .before .before .offer-len .ensures .0) (λ e. omega arith) (λ e. omega arith) (λ e. omega arith) in (t .0, omega (arith, t .1))
+step-requires c κs =
+    let o = len-at-step c in
+    let a = start o .args in
+    let t = other-room (byte (a .bytes .now) (a .at)) (a .bytes .now) (a .at + 1) (a .len) (o .offer-len .result) (omega arith) (o .offer-len .ensures .0) (λ e. omega arith) (λ e. omega arith) (λ e. omega arith) in
+    (t .0, omega (arith, t .1))
 
 add-told-3 : tie.Need-add-told-3
 add-told-3 c = search needs
@@ -85,7 +111,9 @@ told-requires-2 : tie.Need-told-requires-2
 told-requires-2 c κs = search needs
 
 returns-5 : tie.Need-returns-5
-returns-5 c = turn-stepped _ _ _ _ _ _ _ _ (omega arith) (c .before .before .before .before .before .offer-len .ensures .0) (λ e. omega arith) (omega (arith, c .before .before .before .before .before .offer-len .ensures .1)) _ (λ e. omega arith) (λ e. omega arith) (c .before .step .ensures) refl (c .told2 .ensures)
+returns-5 c =
+    let o = len-at-step (c .before .before) .offer-len .ensures in
+    turn-stepped _ _ _ _ _ _ _ _ (omega arith) (o .0) (λ e. omega arith) (omega (arith, o .1)) _ (λ e. omega arith) (λ e. omega arith) (c .before .step .ensures) refl (c .told2 .ensures)
 
 pub record-spec : {M : Type 1} → statement M
 record-spec =

@@ -6,6 +6,13 @@ use Rattle.record_offer_text.specs.Lines.{chosenText}
 use Rattle.record_offer_text.proofs.put_chosen.Statement.{statement}
 use Rattle.record_offer_text.proofs.put_chosen.Tie as tie
 
+-- the places that the proof looks back to, each from the next one
+abbrev after-put : tie.After-put-value → tie.After-put
+after-put c = c .before .before .before .before
+
+abbrev after-put-value : tie.After-slice-known4 → tie.After-put-value
+after-put-value c = c .before .before .before .before .before .before .before
+
 slice-aggregate-put : tie.Need-slice-aggregate-put
 slice-aggregate-put c = search needs
 
@@ -27,10 +34,10 @@ same-length c = search needs
 returns : tie.Need-returns
 unfolding chosenText
 returns c =
-    let p = c .before .before .before .before .before .before .before .before .before .before .before .put in
-    let q = c .before .before .before .before .before .before .before .put-value in
+    let p = after-put (after-put-value c) .put in
+    let q = after-put-value c .put-value in
     let r = c .before .before .put2 in
-    (then _ _ _ _ _ _ _ _ (omega arith) (p .ensures) (then _ _ _ _ _ _ _ _ (omega arith) (q .ensures .0) (r .ensures)), omega arith)
+    (then (omega arith) (p .ensures) (then (omega arith) (q .ensures .0) (r .ensures)), omega arith)
 
 pub put-chosen-spec : {M : Type 1} → statement M
 put-chosen-spec =

@@ -19,6 +19,10 @@ Inv-loop out₀ at slate count end₀ i₀ out end i =
 abbrev μ-loop : tie.MeasureT-loop
 μ-loop out₀ at slate count end₀ i₀ out end i = count - i
 
+-- the places that the proof looks back to, each from the next one
+abbrev at-loop : tie.After-slice-known2 Inv-loop μ-loop → tie.At-loop Inv-loop μ-loop
+at-loop c = c .before .before .before .before .before .before
+
 loop-holds : tie.Need-loop-holds Inv-loop μ-loop
 unfolding entriesText
 loop-holds c = (omega arith, omega arith, omega arith, refl, omega arith, put-none _ _)
@@ -40,16 +44,16 @@ loop-less c = search needs
 
 loop-again : tie.Need-loop-again Inv-loop μ-loop
 loop-again c =
-    let v = c .before .before .before .before .before .before .loop .inv in
-    let l = c .before .before .before .before .before .before .loop in
-    let a = c .before .before .before .before .before .before .before .before .args in
+    let l = at-loop c .loop in
+    let v = l .inv in
+    let a = at-loop c .before .before .args in
     let p = c .before .before .put-entry in (
       omega arith,
       omega arith,
       omega arith,
       omega arith,
       omega arith,
-      rw (entries-more (a .slate .now) (l .i) (omega arith)) at (then _ _ _ _ _ _ _ _ (omega arith) (v .5) (p .ensures .0)),
+      rw (entries-more (a .slate .now) (l .i) (omega arith)) at (then (omega arith) (v .5) (p .ensures .0)),
     )
 
 same-length : tie.Need-same-length Inv-loop μ-loop

@@ -6,6 +6,28 @@ use Rattle.record_offer_text.specs.Lines.{entryText}
 use Rattle.record_offer_text.proofs.put_entry.Statement.{statement}
 use Rattle.record_offer_text.proofs.put_entry.Tie as tie
 
+-- the places that the proof looks back to, each from the next one
+abbrev after-put-value4 : tie.After-slice-known7 → tie.After-put-value4
+after-put-value4 c = c .before .before .before .before .before .before .before
+
+abbrev after-put-value3 : tie.After-slice-known7 → tie.After-put-value3
+after-put-value3 c = after-put-value4 c .before .before .before .before
+
+abbrev after-put-value2 : tie.After-slice-known7 → tie.After-put-value2
+after-put-value2 c = after-put-value3 c .before .before .before .before
+
+abbrev after-put-value : tie.After-slice-known7 → tie.After-put-value
+after-put-value c = after-put-value2 c .before .before .before .before
+
+abbrev after-put : tie.After-slice-known7 → tie.After-put
+after-put c = after-put-value c .before .before .before .before
+
+abbrev after-companion-in : tie.After-slice-known7 → tie.After-companion-in
+after-companion-in c = after-put c .before .before .before
+
+abbrev after-number-in : tie.After-slice-known7 → tie.After-number-in
+after-number-in c = after-companion-in c .before .before .before
+
 number-in-requires : tie.Need-number-in-requires
 number-in-requires c κs = search needs
 
@@ -48,22 +70,22 @@ same-length c = search needs
 returns : tie.Need-returns
 unfolding entryText
 returns c =
-    let h = c .before .before .before .before .before .before .before .before .before .before .before .before .before .before .before .before .before .before .before .before .before .before .before .before .before .before .before .before .before .before .before .pre in
-    let n = c .before .before .before .before .before .before .before .before .before .before .before .before .before .before .before .before .before .before .before .before .before .before .before .before .before .before .before .before .before .number-in in
-    let m = c .before .before .before .before .before .before .before .before .before .before .before .before .before .before .before .before .before .before .before .before .before .before .before .before .before .before .before .before .setup-in in
-    let k = c .before .before .before .before .before .before .before .before .before .before .before .before .before .before .before .before .before .before .before .before .before .before .before .before .before .before .before .units-in in
-    let j = c .before .before .before .before .before .before .before .before .before .before .before .before .before .before .before .before .before .before .before .before .before .before .before .before .before .before .companion-in in
-    let p = c .before .before .before .before .before .before .before .before .before .before .before .before .before .before .before .before .before .before .before .before .before .before .before .put in
-    let q = c .before .before .before .before .before .before .before .before .before .before .before .before .before .before .before .before .before .before .before .put-value in
-    let r = c .before .before .before .before .before .before .before .before .before .before .before .before .before .before .before .put-value2 in
-    let s = c .before .before .before .before .before .before .before .before .before .before .before .put-value3 in
-    let t = c .before .before .before .before .before .before .before .put-value4 in
+    let h = after-number-in c .before .before .pre in
+    let n = after-number-in c .number-in in
+    let m = after-companion-in c .before .before .setup-in in
+    let k = after-companion-in c .before .units-in in
+    let j = after-companion-in c .companion-in in
+    let p = after-put c .put in
+    let q = after-put-value c .put-value in
+    let r = after-put-value2 c .put-value2 in
+    let s = after-put-value3 c .put-value3 in
+    let t = after-put-value4 c .put-value4 in
     let u = c .before .before .put2 in (
       rw (← n .ensures, ← m .ensures, ← k .ensures, ← j .ensures)
-          (then _ _ _ _ _ _ _ _ (omega arith) (p .ensures)
-          (then _ _ _ _ _ _ _ _ (omega arith) (q .ensures .0)
-          (then _ _ _ _ _ _ _ _ (omega arith) (r .ensures .0)
-          (then _ _ _ _ _ _ _ _ (omega arith) (s .ensures .0) (then _ _ _ _ _ _ _ _ (omega arith) (t .ensures .0) (u .ensures)))))),
+          (then (omega arith) (p .ensures)
+          (then (omega arith) (q .ensures .0)
+          (then (omega arith) (r .ensures .0)
+          (then (omega arith) (s .ensures .0) (then (omega arith) (t .ensures .0) (u .ensures)))))),
       omega arith,
     )
 

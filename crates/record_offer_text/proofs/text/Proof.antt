@@ -21,10 +21,11 @@ same-length c = search needs
 returns : tie.Need-returns
 unfolding textOf
 returns c =
-    let p = c .before .before .before .before .before .before .before .put-line in
+    let s = c .before .before .before in
+    let p = s .before .before .before .before .put-line in
     let q = c .before .before .put-entries in (
-      then _ _ _ _ _ _ _ _ (omega arith) (p .ensures .0) (rw (c .before .before .before .shown .ensures) at (q .ensures .0)),
-      omega (arith, q .ensures .1, p .ensures .1, c .before .before .before .shown .ensures),
+      then (omega arith) (p .ensures .0) (rw (s .shown .ensures) at (q .ensures .0)),
+      omega (arith, q .ensures .1, p .ensures .1, s .shown .ensures),
     )
 
 pub text-spec : {M : Type 1} → statement M

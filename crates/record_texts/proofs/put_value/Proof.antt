@@ -22,7 +22,7 @@ returns : tie.Need-returns
 returns c =
     let p = c .before .before .before .before .before .before .put in
     let q = c .before .before .put-number in
-    (then _ (32 ∷ []) _ _ _ _ _ _ (omega (arith, p .ensures .end)) (p .ensures) (q .ensures .0), omega (arith, p .ensures .end, q .ensures .1))
+    (then {s = 32 ∷ []} (omega (arith, p .ensures .end)) (p .ensures) (q .ensures .0), omega (arith, p .ensures .end, q .ensures .1))
 
 pub put-value-spec : {M : Type 1} → statement M
 put-value-spec =

@@ -21,8 +21,8 @@ written-then d s t i h =
     ∙ ap (λ (k : ℕ). drop k d) e in
     rw (q, take-at (take i d ++ s) (drop (i + length s) d) (i + length s) p, append-assoc (take i d) s t)
 
-pub then : (d s x t y : List ℕ) (i j k : ℕ) → j ≤ length d → Put d i s x j → Put x j t y k → Put d i (s ++ t) y k
-then d s x t y i j k h p q =
+pub then : {d s x t y : List ℕ} {i j k : ℕ} → j ≤ length d → Put d i s x j → Put x j t y k → Put d i (s ++ t) y k
+then {d} {s} {x} {t} {y} {i} {j} {k} h p q =
     record {
       bytes = q .bytes ∙ ap (λ (l : List ℕ). written l j t) (p .bytes) ∙ ap (λ (n : ℕ). written (written d i s) n t) (p .end) ∙ written-then d s t i (omega (arith, p .end));
       end = omega (arith, p .end, q .end, length-append s t);

@@ -18,6 +18,10 @@ Inv-loop number e n i₀ i = (n ≤ 24) × (i ≤ n) × (length (e .entries) ≡
 abbrev μ-loop : tie.MeasureT-loop
 μ-loop number e n i₀ i = n - i
 
+-- the places that the proof looks back to, each from the next one
+abbrev in-loop : tie.After-struct-known Inv-loop μ-loop → tie.In-loop Inv-loop μ-loop
+in-loop c = c .before .before
+
 loop-holds : tie.Need-loop-holds Inv-loop μ-loop
 unfolding among
 loop-holds c = (c .pre, omega arith, simp length-map at (c .good .0 .1 .1 .0 .1 .0 .1), refl)
@@ -30,9 +34,10 @@ element-copy-out-x c = search needs
 
 returns : tie.Need-returns Inv-loop μ-loop
 returns c =
-    let v = c .before .before .before .before .loop .inv in
-    let l = c .before .before .before .loop-test .taken in
-    sym (among-found (c .before .before .before .before .before .args .t1 .entries) (c .before .before .before .before .before .args .number) (c .before .before .before .before .loop .i) (omega (arith, v .2, v .0)) (v .3) (c .if1 .taken) (c .before .before .before .before .before .args .t1 .count) l)
+    let t = in-loop (c .before) in
+    let v = t .before .loop .inv in
+    let l = t .loop-test .taken in
+    sym (among-found (t .before .before .args .t1 .entries) (t .before .before .args .number) (t .before .loop .i) (omega (arith, v .2, v .0)) (v .3) (c .if1 .taken) (t .before .before .args .t1 .count) l)
 
 add-i : tie.Need-add-i Inv-loop μ-loop
 add-i c = search needs
@@ -42,9 +47,10 @@ loop-less c = search needs
 
 loop-again : tie.Need-loop-again Inv-loop μ-loop
 loop-again c =
-    let v = c .before .before .before .before .loop .inv in
-    let l = c .before .before .before .loop-test .taken in
-    (v .0, omega arith, v .2, among-other (c .before .before .before .before .before .args .t1 .entries) (c .before .before .before .before .before .args .number) (c .before .before .before .before .loop .i) (omega (arith, v .2, v .0)) (v .3) (c .if1 .left))
+    let t = in-loop (c .before) in
+    let v = t .before .loop .inv in
+    let l = t .loop-test .taken in
+    (v .0, omega arith, v .2, among-other (t .before .before .args .t1 .entries) (t .before .before .args .number) (t .before .loop .i) (omega (arith, v .2, v .0)) (v .3) (c .if1 .left))
 
 returns-2 : tie.Need-returns-2 Inv-loop μ-loop
 returns-2 c =

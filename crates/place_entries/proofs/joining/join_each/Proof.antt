@@ -22,6 +22,10 @@ Inv-loop list n more₀ i₀ more i =
 abbrev μ-loop : tie.MeasureT-loop
 μ-loop list n more₀ i₀ more i = n - i
 
+-- the places that the proof looks back to, each from the next one
+abbrev in-loop : tie.After-is-among Inv-loop μ-loop → tie.In-loop Inv-loop μ-loop
+in-loop c = c .before .before
+
 loop-holds : tie.Need-loop-holds Inv-loop μ-loop
 unfolding joinEach
 loop-holds c = (c .pre .1, omega arith, search needs, joined-none (c .args .e .count) (c .args .e .entries) (c .pre .0) (simp length-map at (c .good .0 .1 .1 .0 .1 .0 .1)))
@@ -35,13 +39,14 @@ is-among-requires c κs =
     joined-few _ _ _ _ _ (v .3)
 
 -- there is room for one more
-room : (c : tie.Then1 Inv-loop μ-loop) → c .before .before .before .before .loop .more .count < 24
+room : (c : tie.Then1 Inv-loop μ-loop) → in-loop (c .before) .before .loop .more .count < 24
 room c =
-    let a = c .before .before .before .before .before .args in
-    let q = c .before .before .before .before .before .pre in
-    let v = c .before .before .before .before .loop .inv in
-    let i = c .before .before .before .before .loop .i in
-    let l = c .before .before .before .loop-test .taken in
+    let t = in-loop (c .before) in
+    let a = t .before .before .args in
+    let q = t .before .before .pre in
+    let v = t .before .loop .inv in
+    let i = t .before .loop .i in
+    let l = t .loop-test .taken in
     let e = c .before .is-among .ensures in
     let small = small-at (a .t2 .numbers) (a .t2 .len) (omega (arith, v .2, q .1)) (q .2) i l in
     join-room _ _ (a .t2 .numbers) i _ _ (omega (arith, v .2, q .1)) (v .3) (sym e ∙ not-true _ (c .if1 .taken)) small
@@ -66,11 +71,12 @@ loop-less c = search needs
 
 loop-again : tie.Need-loop-again Inv-loop μ-loop
 loop-again c =
-    let a = c .before .before .before .before .before .args in
-    let q = c .before .before .before .before .before .pre in
-    let v = c .before .before .before .before .loop .inv in
-    let i = c .before .before .before .before .loop .i in
-    let l = c .before .before .before .loop-test .taken in
+    let t = in-loop (c .before) in
+    let a = t .before .before .args in
+    let q = t .before .before .pre in
+    let v = t .before .loop .inv in
+    let i = t .before .loop .i in
+    let l = t .loop-test .taken in
     let e = c .before .is-among .ensures in
     let small = small-at (a .t2 .numbers) (a .t2 .len) (omega (arith, v .2, q .1)) (q .2) i l in
     let m : i < length (a .t2 .numbers) = omega (arith, v .2, q .1) in (

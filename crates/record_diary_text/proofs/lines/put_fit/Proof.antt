@@ -45,7 +45,7 @@ returns c =
     let q = after-put-value c .put-value in
     let r = after-put-value2 c .put-value2 in
     let s = c .before .before .put2 in (
-      then _ (102 ∷ 105 ∷ 116 ∷ []) _ _ _ _ _ _ (omega arith) (p .ensures) (then _ _ _ _ _ _ _ _ (omega arith) (q .ensures .0) (then _ _ _ (10 ∷ []) _ _ _ _ (omega arith) (r .ensures .0) (s .ensures))),
+      then {s = 102 ∷ 105 ∷ 116 ∷ []} (omega arith) (p .ensures) (then (omega arith) (q .ensures .0) (then {t = 10 ∷ []} (omega arith) (r .ensures .0) (s .ensures))),
       omega arith,
     )
 

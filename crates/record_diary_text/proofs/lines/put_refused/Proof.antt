@@ -38,7 +38,7 @@ returns c =
     let p = after-put (after-put-number c) .put in
     let q = after-put-number c .put-number in
     let r = c .before .before .put2 in (
-      then _ (114 ∷ 101 ∷ 102 ∷ 117 ∷ 115 ∷ 101 ∷ 100 ∷ 32 ∷ []) _ _ _ _ _ _ (omega arith) (p .ensures) (then _ _ _ (10 ∷ []) _ _ _ _ (omega arith) (q .ensures .0) (r .ensures)),
+      then {s = 114 ∷ 101 ∷ 102 ∷ 117 ∷ 115 ∷ 101 ∷ 100 ∷ 32 ∷ []} (omega arith) (p .ensures) (then {t = 10 ∷ []} (omega arith) (q .ensures .0) (r .ensures)),
       omega arith,
     )
 
