@@ -73,7 +73,9 @@ withTimings a ts = record {
 -- one requirement more: four are kept; from the fifth on only the count tells, up to 5, which stands for any above
 unfoldable pub withRequirement : Activity → ResourceRequirement → Activity
 withRequirement a q =
-    withRequirements a (cond (ltb (a .len) 4) (set (a .requirements) (a .len) q) (a .requirements)) (cond (ltb (a .len) 5) (a .len + 1) (a .len))
+    withRequirements a
+    (cond (ltb (a .len) 4) (set (a .requirements) (a .len) q) (a .requirements))
+    (cond (ltb (a .len) 5) (a .len + 1) (a .len))
 
 -- the timing on the resource of a number
 abbrev pub withTiming : Activity → ℕ → ResourceTiming → Activity

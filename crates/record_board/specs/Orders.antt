@@ -47,7 +47,10 @@ flagAbove bs i = ltb 1 (byte bs (i + 25)) || (ltb 1 (byte bs (i + 26)) || ltb 1 
 unfoldable pub orderDoes : Desk → List ℕ → ℕ → DeskStepped
 orderDoes d bs i =
     cond (flagAbove bs i) (record { desk = d; refusal = 9 })
-    (record { desk = withOrder (withDiary d (cond (eqb (byte bs (i + 37)) 0) (d .timeline) (newDiary (pos 1)))) (orderAt d bs i); refusal = 0 })
+    (record {
+      desk = withOrder (withDiary d (cond (eqb (byte bs (i + 37)) 0) (d .timeline) (newDiary (pos 1)))) (orderAt d bs i);
+      refusal = 0;
+    })
 
 -- type (1), candidates (2), skills (8), quantity (4), usage (4)
 abbrev pub requirementAt : List ℕ → ℕ → ResourceRequirement

@@ -18,6 +18,7 @@ use Rattle.calendar.specs.Sets.{bit}
 use Rattle.activity.specs.Serving.{covers, candidate, serves}
 use Rattle.cells.specs.Every.{every}
 use Rattle.activity.specs.Check.{releaseRight, short, quantity, quantitiesRight, usageRight, timesRight, activityRefusal}
+use Rattle.activity.specs.Order.{orderWith, withRequirements, withTimings}
 
 -- 2.0, 0.5
 abbrev pub two : Float
@@ -74,17 +75,10 @@ speeds = refl
 
 -- an order with one requirement and timing
 abbrev order : ℕ → ℕ → ℕ → ℕ → ResourceTiming → Activity
-order category process quantity usage timing = record {
-  category = category;
-  duration = lasting 0 process 0;
-  resumable = false;
-  release = Absent;
-  calendar = empty;
-  origins = 0;
-  requirements = record { kind = 0; candidates = 0; skills = 0; quantity = quantity; usage = usage } ∷ [];
-  len = 1;
-  timings = record { timing = timing } ∷ [];
-}
+order category process quantity usage timing =
+    let bare = orderWith category (lasting 0 process 0) false Absent empty 0 in
+    let wanted = withRequirements bare (record { kind = 0; candidates = 0; skills = 0; quantity = quantity; usage = usage } ∷ []) 1 in
+    withTimings wanted (record { timing = timing } ∷ [])
 
 -- the last value taken and the first refused, of each; speed 4, the double behind it, a NaN
 pub edges :
@@ -101,7 +95,7 @@ pub edges :
     ∷ activityRefusal (order 15 0 1 1 (Speed nan)) 0
     ∷ [])
     ≡ 0 ∷ 5 ∷ 1 ∷ 1 ∷ 1 ∷ 6 ∷ 6 ∷ 3 ∷ 3 ∷ 8 ∷ 8 ∷ []
-unfolding isSpeed le ofBits every releaseRight short quantity quantitiesRight usageRight timesRight activityRefusal
+unfolding isSpeed le ofBits every releaseRight short quantity quantitiesRight usageRight timesRight activityRefusal orderWith
 edges = refl
 
 -- a candidate whatever its type; a type where no candidate is named; every skill, not some

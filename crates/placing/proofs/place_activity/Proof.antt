@@ -22,7 +22,7 @@ use Rattle.board.specs.Valid.{valid}
 use Rattle.board.specs.Places.{Known}
 use Rattle.scheduler.specs.declared.Entry.{Entry}
 use Rattle.scheduler.specs.Alone.{spanOf}
-use Rattle.scheduler.specs.Choosing.{noChoice, chosen, choosing}
+use Rattle.scheduler.specs.Choosing.{chosen, choosing}
 use Rattle.scheduler.specs.Fitting.{sharesOf}
 use Rattle.scheduler.specs.Selections.{heldTo}
 use Rattle.scheduler.specs.Placing.{slateAfter, placeRefusal}

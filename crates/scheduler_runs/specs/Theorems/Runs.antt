@@ -24,15 +24,17 @@ use Rattle.timeline.specs.Book.{bookRefusal, taken, bookReply}
 use Rattle.timeline.specs.Ask as asking
 use Rattle.activity.specs.declared.ResourceTiming.the-variants.{Nothing}
 use Rattle.activity.specs.declared.Timed.{Timed}
+use Rattle.activity.specs.declared.ResourceRequirement.{ResourceRequirement}
 use Rattle.activity.specs.declared.Release.the-variants.{Absent}
 use Rattle.activity.specs.declared.Activity.{Activity}
 use Rattle.activity_speeds.specs.Speeds.{halfUp, roundAway, processAt, isSpeed}
-use Rattle.activity.specs.Durations.{greatest, product, durationOn}
+use Rattle.activity.specs.Durations.{untimed, greatest, product, durationOn}
 use Rattle.calendar.specs.Sets.{bit}
 use Rattle.activity.specs.Serving.{covers, candidate, serves}
 use Rattle.activity.specs.Ready.{readyOf}
 use Rattle.cells.specs.Every.{every, everyFrom}
-use Rattle.activity.specs.Check.{releaseRight, short, quantity, quantitiesRight, usageRight, timesRight, activityRefusal}
+use Rattle.activity.specs.Check.{noRequirement, releaseRight, short, quantity, quantitiesRight, usageRight, timesRight, activityRefusal}
+use Rattle.activity.specs.Order.{orderWith, withRequirements, withTimings}
 use Rattle.activity.specs.Theorems.Runs.{two, half, lasting, at}
 use Rattle.board.specs.declared.Board.{Board}
 use Rattle.board.specs.Resources as resources
@@ -98,17 +100,10 @@ boardOf t u = record {
 
 -- an order of this process time and quantity
 abbrev pub order : ℕ → ℕ → List Timed → Activity
-order p q timings = record {
-  category = 0;
-  duration = lasting 0 p 0;
-  resumable = false;
-  release = Absent;
-  calendar = empty;
-  origins = 0;
-  requirements = record { kind = 0; candidates = 0; skills = 0; quantity = q; usage = 1 } ∷ replicate 3 (record { kind = 0; candidates = 0; skills = 0; quantity = 0; usage = 0 });
-  len = 1;
-  timings = timings ++ replicate (16 - length timings) (record { timing = Nothing });
-}
+order p q timings =
+    let wanted : ResourceRequirement = record { kind = 0; candidates = 0; skills = 0; quantity = q; usage = 1 } in
+    let bare = orderWith 0 (lasting 0 p 0) false Absent empty 0 in
+    withTimings (withRequirements bare (wanted ∷ replicate 3 noRequirement) 1) (timings ++ replicate (16 - length timings) untimed)
 
 abbrev pub entry : ℕ → Entry
 entry number = heldEntry number 0 1
@@ -173,7 +168,7 @@ unfolding run eq le mul div ofInt leastFrom spansFrom any holds meets contains c
     timeline.cellEmpty timeline.contentsRight timeline.valid overlaps onAt tally load free fitsAt freeTo startsAt lastEvent earliestFit earliestResumable
     insertByStart latestEnds diary bookRefusal taken bookReply asking.unbroken asking.ended asking.resumed asking.askRefusal asking.asked
     halfUp roundAway processAt isSpeed greatest product durationOn bit covers candidate serves readyOf every releaseRight short quantity
-    quantitiesRight usageRight timesRight activityRefusal resources.lookupTo isAt entryOr matrixSetup setupMs transport.placesFrom
+    quantitiesRight usageRight timesRight activityRefusal orderWith resources.lookupTo isAt entryOr matrixSetup setupMs transport.placesFrom
     transport.greatestTransport board.durationRight board.entryRight board.isZero board.matrixRight board.companionsRight board.lastRight
     board.resourceRight board.diaryBlank board.lastBlank board.resourceBlank board.cellRight board.transportRight
     board.valid canStart allStart lastOf earliestOf resourceIn withCompanions durationAlone spanOf arrival startAlone startWith sooner
@@ -205,7 +200,7 @@ unfolding eq le mul div ofInt leastFrom spansFrom any holds meets contains calen
     timeline.cellEmpty timeline.contentsRight timeline.valid overlaps onAt tally load free fitsAt freeTo startsAt lastEvent earliestFit earliestResumable
     insertByStart latestEnds diary bookRefusal taken bookReply asking.unbroken asking.ended asking.resumed asking.askRefusal asking.asked
     halfUp roundAway processAt isSpeed greatest product durationOn bit covers candidate serves readyOf every releaseRight short quantity
-    quantitiesRight usageRight timesRight activityRefusal resources.lookupTo isAt entryOr matrixSetup setupMs transport.placesFrom
+    quantitiesRight usageRight timesRight activityRefusal orderWith resources.lookupTo isAt entryOr matrixSetup setupMs transport.placesFrom
     transport.greatestTransport board.durationRight board.entryRight board.isZero board.matrixRight board.companionsRight board.lastRight
     board.resourceRight board.diaryBlank board.lastBlank board.resourceBlank board.cellRight board.transportRight
     board.valid canStart allStart lastOf earliestOf resourceIn withCompanions durationAlone spanOf arrival startAlone startWith sooner
