@@ -6,6 +6,7 @@ use activity::Release;
 use activity::ResourceRequirement;
 use activity::ResourceTiming;
 use activity::Timed;
+use activity::order::order_with;
 use board::Board;
 use calendar::Calendar;
 use scheduler::rows::BLANK_ROW;
@@ -159,21 +160,20 @@ pub fn any_order(x: u64) -> Activity {
     let calendar = own_calendar(next(z));
     let first = any_requirement(x / 8);
     let rest = any_requirement(y / 8);
-    let untimed = Timed {
-        timing: ResourceTiming::Nothing,
-    };
-    let mut a = Activity {
-        category: (z / 64 % 16) as u8,
-        duration: duration,
-        resumable: z / 4 % 2 == 0,
-        release: release,
-        calendar: calendar,
-        origins: (z / 128 % 65536) as u16,
-        requirements: [rest; 4],
-        len: (x / 64 % 4) as usize,
-        timings: [untimed; 16],
-    };
+    let origins = (z / 128 % 65536) as u16;
+    let mut a = order_with(
+        (z / 64 % 16) as u8,
+        duration,
+        z / 4 % 2 == 0,
+        release,
+        calendar,
+        origins,
+    );
+    a.len = (x / 64 % 4) as usize;
     a.requirements[0] = first;
+    a.requirements[1] = rest;
+    a.requirements[2] = rest;
+    a.requirements[3] = rest;
     a.timings[0] = Timed {
         timing: ResourceTiming::Speed(2.0),
     };
