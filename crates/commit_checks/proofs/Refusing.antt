@@ -16,6 +16,7 @@ use Rattle.board.specs.Valid as board
 use Rattle.board.specs.Laws.Replying.{refused-by, taken-by}
 use Rattle.scheduler.specs.Committing.{Line, linesOf, linesRefusal, commitRefusal, bookAll, commitReply, Bookable}
 use Rattle.scheduler.specs.Laws.Committed.{BookableLine, Room, allOn, allMetered, allRoomy, passed, room-passed, all-fine}
+use Rattle.scheduler.specs.Rows.{Row}
 
 -- a check that the code made, and what it is a check of
 pub check-passed : (r p q : Bool) → r ≡ p → p ≡ q → not r ≡ false → q ≡ true
@@ -66,7 +67,7 @@ module _ (b : Board) (ls : List Line) (start end category : ℕ) where
 -- a commitment: the first `count` entries of a slate on a board, from when to when, and the category
 pub record Commitment : Type 0 where
   pub board : Board
-  pub slate : List (List ℕ)
+  pub slate : List Row
   pub count : ℕ
   pub start : ℕ
   pub end : ℕ

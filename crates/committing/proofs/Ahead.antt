@@ -22,7 +22,7 @@ use Rattle.board.specs.Enter.{withResource, changed}
 use Rattle.board.specs.Laws.Facts.{rules}
 use Rattle.board.specs.Theorems.Meaning.{resource-of}
 use Rattle.scheduler.specs.Alone.{diaryOf}
-use Rattle.scheduler.specs.Rows.{numberIn, unitsIn, isCompanion}
+use Rattle.scheduler.specs.Rows.{Row, numberIn, unitsIn, isCompanion}
 use Rattle.scheduler.specs.Committing.{Line, lineWith, lineOf, linesOf, entriesOn, lastAfter, booked, bookAll, Bookable}
 use Rattle.scheduler.specs.Laws.Committed.{BookableLine, Room, step-long, lookup-after, after-keeps, right-after, room-after}
 use Rattle.cells.specs.Every.{Each}
@@ -167,7 +167,7 @@ pub left-none : (k : Commitment) (places : List ℕ) (b : Board) (i : ℕ) → L
 left-none k places b i a l = ahead-none k places b (linesFrom k i) (lines-none k i l) (a .ahead)
 
 module _ (k : Commitment) (places : List ℕ) (b : Board) (i : ℕ) (a : Left k places b i) (l : i < k .count) where
-  abbrev row : List ℕ
+  abbrev row : Row
   row = getD (k .slate) i []
 
   left : Ahead k places b (lineOf row ∷ linesFrom k (i + 1))

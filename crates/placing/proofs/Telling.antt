@@ -19,7 +19,7 @@ use Rattle.scheduler.specs.Alone.{Share}
 use Rattle.scheduler.specs.Fitting.{sharesOf, fitting, endOf}
 use Rattle.scheduler.specs.Placing as placement
 use Rattle.scheduler.specs.Placing.{Reply, chosenNone, started, fitted, placeRefusal, slateAfter}
-use Rattle.scheduler.specs.Rows.{rowOf}
+use Rattle.scheduler.specs.Rows.{Row, rowOf}
 use Rattle.place_fit.specs.Closing.{withEnd, closing}
 use Rattle.placing.specs.Told.{placedOf, told}
 use Rattle.placing.specs.declared.PlaceReply.the-variants as reply
@@ -48,7 +48,7 @@ all-right b a ready slate e =
     (not-false (valid b) (or-left _ _ (x .0)), not-false (calendar.valid (a .calendar)) (or-right (not (valid b)) _ (x .0)), ltb-false slate 24 (y .0), y .1)
 
 -- what the closing fit answers is the definition's reply
-module _ (b : Board) (a : Activity) (span t : ℕ) (es : List Entry) (n : ℕ) (long : length es ≡ n) (r : asking.AskReply) (e : r ≡ closing (a .resumable) (sharesOf b es) (a .calendar) span t) (slate : List (List ℕ)) where
+module _ (b : Board) (a : Activity) (span t : ℕ) (es : List Entry) (n : ℕ) (long : length es ≡ n) (r : asking.AskReply) (e : r ≡ closing (a .resumable) (sharesOf b es) (a .calendar) span t) (slate : List Row) where
   fitted-is : fitted b a span t es ≡ replyFrom t es r
   unfolding fitted closing
   fitted-is = sym (ap (replyFrom t es) e ∙ closing-reply a (sharesOf b es) span t es (fitting (a .resumable) (sharesOf b es) (a .calendar) span t))

@@ -7,11 +7,11 @@ use native.Mathlib.Omega.{arith}
 use lib.ListN.{length, getD, set, take, drop, length-map, length-append, length-drop}
 use lib.Seq.{set-at, length-take-le, take-suc, drop-cons}
 use Rattle.scheduler.specs.declared.Entry.{Entry}
-use Rattle.scheduler.specs.Rows.{rowOf}
+use Rattle.scheduler.specs.Rows.{Row, rowOf}
 use Rattle.scheduler.specs.Entries.{noEntry}
 
-module _ (es : List Entry) (slate : List (List ℕ)) where
-  abbrev pub written : ℕ → List (List ℕ)
+module _ (es : List Entry) (slate : List Row) where
+  abbrev pub written : ℕ → List Row
   written i = map rowOf (take i es) ++ drop i slate
 
   rows-long : (i : ℕ) → i ≤ length es → length (map rowOf (take i es)) ≡ i
@@ -23,6 +23,6 @@ module _ (es : List Entry) (slate : List (List ℕ)) where
   pub written-next : (i : ℕ) → i < length es → i < length slate → set (written i) i (rowOf (getD es i noEntry)) ≡ written (i + 1)
   written-next i l m =
       let r = rowOf (getD es i noEntry) in
-      rw (add-one i) (ap (λ (xs : List (List ℕ)). set (map rowOf (take i es) ++ xs) i r) (drop-cons slate i [] m)
+      rw (add-one i) (ap (λ (xs : List Row). set (map rowOf (take i es) ++ xs) i r) (drop-cons slate i [] m)
       ∙ set-at (map rowOf (take i es)) (getD slate i []) (drop (suc i) slate) r i (rows-long i (omega arith))
-      ∙ sym (ap (λ (xs : List Entry). map rowOf xs ++ drop (suc i) slate) (take-suc es i noEntry l) ∙ ap (λ (xs : List (List ℕ)). xs ++ drop (suc i) slate) (map-append rowOf (take i es) (getD es i noEntry ∷ [])) ∙ append-assoc (map rowOf (take i es)) (r ∷ []) (drop (suc i) slate)))
+      ∙ sym (ap (λ (xs : List Entry). map rowOf xs ++ drop (suc i) slate) (take-suc es i noEntry l) ∙ ap (λ (xs : List Row). xs ++ drop (suc i) slate) (map-append rowOf (take i es) (getD es i noEntry ∷ [])) ∙ append-assoc (map rowOf (take i es)) (r ∷ []) (drop (suc i) slate)))

@@ -10,7 +10,7 @@ use borrow.Author.Tests.{le-leb, lt-leb, eq-eqb, ne-eqb}
 use Rattle.record_bodies.specs.Numbers.{little}
 use Rattle.board.specs.declared.Entered.{Entered}
 use Rattle.scheduler.specs.Placing.{Reply, placed, chosenNone, none, refused, slateAfter, placeReply}
-use Rattle.scheduler.specs.Rows.{rowOf}
+use Rattle.scheduler.specs.Rows.{Row, rowOf}
 use Rattle.scheduler.specs.Committing.{commitReply}
 use Rattle.placing.specs.declared.PlaceReply.{PlaceReply}
 use Rattle.placing.specs.Told as placed
@@ -24,17 +24,17 @@ use Rattle.record_offer.specs.declared.OfferAnswer.the-variants as answe
 use Rattle.record_offer.specs.Offers.{offerLen, placing, answerOf, placedAnswer, commitDoes, told, ends, recordDoes, turnReply, slateReply, shown}
 
 -- placing, from its parts
-module _ (d : Desk) (slate : List (List ℕ)) (bs : List ℕ) (i ready : ℕ) (f : ready ≡ little bs i 8) where
+module _ (d : Desk) (slate : List Row) (bs : List ℕ) (i ready : ℕ) (f : ready ≡ little bs i 8) where
   pub placed-answer : (p : PlaceReply) (a : OfferAnswer) → p ≡ placed.told (placeReply (d .board) (d .activity) ready (length slate)) → a ≡ answerOf p → a ≡ placedAnswer d slate bs i
   unfolding placedAnswer placing
   placed-answer p a g h = rw (← f, ← g) h
 
-  pub placed-slate : (after : List (List ℕ)) → after ≡ slateAfter (placeReply (d .board) (d .activity) ready (length slate)) slate → after ≡ slateAfter (placing d slate bs i) slate
+  pub placed-slate : (after : List Row) → after ≡ slateAfter (placeReply (d .board) (d .activity) ready (length slate)) slate → after ≡ slateAfter (placing d slate bs i) slate
   unfolding placing
   placed-slate after g = rw (← f) g
 
 -- committing, from its parts
-pub commits : (d : Desk) (slate : List (List ℕ)) (bs : List ℕ) (i : ℕ) (count start end : ℕ) (e : Entered) (s : DeskStepped)
+pub commits : (d : Desk) (slate : List Row) (bs : List ℕ) (i : ℕ) (count start end : ℕ) (e : Entered) (s : DeskStepped)
     → count ≡ little bs i 4 → start ≡ little bs (i + 4) 8 → end ≡ little bs (i + 12) 8
     → e ≡ commitReply (d .board) slate count start end (d .activity .category) → s ≡ entered d e → s ≡ commitDoes d slate bs i
 unfolding commitDoes
@@ -65,7 +65,7 @@ unfolding ends
 ends-plain t d a i h e = rw e (refl, h)
 
 -- the entries of a placement stand on the slate
-on-slate : (r : Reply) (slate : List (List ℕ)) → shown (answerOf (placed.told r)) ≤ length (slateAfter r slate)
+on-slate : (r : Reply) (slate : List Row) → shown (answerOf (placed.told r)) ≤ length (slateAfter r slate)
 unfolding shown answerOf placed.told placed.placedOf slateAfter
 on-slate (placed p) slate = omega (arith, length-append (map rowOf (p .entries)) (drop (length (p .entries)) slate), length-map (p .entries) rowOf)
 on-slate (chosenNone t) slate = omega arith
@@ -73,7 +73,7 @@ on-slate none slate = omega arith
 on-slate (refused n) slate = omega arith
 
 -- a turn and the slate behind it, by the five ways in which a record is read
-module _ (d : Desk) (slate after : List (List ℕ)) (bs : List ℕ) (i n : ℕ) (t : OfferTurn) where
+module _ (d : Desk) (slate after : List Row) (bs : List ℕ) (i n : ℕ) (t : OfferTurn) where
   abbrev pub Turned : Type 0
   Turned = ((t ≡ turnReply d slate bs i n) × (t .at ≤ n)) × ((after ≡ slateReply d slate bs i n) × (shown (t .answer) ≤ length after))
 

@@ -5,7 +5,7 @@ use lib.ListN.{take}
 use Rattle.record_texts.specs.Text.{decimal}
 use Rattle.timeline.specs.Ask.{none, refused}
 use Rattle.record_diary_text.specs.Lines as slot
-use Rattle.scheduler.specs.Rows.{numberIn, setupIn, unitsIn, companionIn}
+use Rattle.scheduler.specs.Rows.{Row, numberIn, setupIn, unitsIn, companionIn}
 use Rattle.placing.specs.declared.Placed.{Placed}
 use Rattle.record_offer.specs.declared.OfferAnswer.{OfferAnswer}
 use Rattle.record_offer.specs.declared.OfferAnswer.the-variants as answer
@@ -26,12 +26,12 @@ unfoldable pub chosenText : ℕ → List ℕ
 chosenText t = (99 ∷ 104 ∷ 111 ∷ 115 ∷ 101 ∷ 110 ∷ []) ++ (value t ++ (32 ∷ 110 ∷ 111 ∷ 110 ∷ 101 ∷ 10 ∷ []))
 
 -- `entry NUMBER SETUP UNITS COMPANION`, of a row of the slate
-unfoldable pub entryText : List ℕ → List ℕ
+unfoldable pub entryText : Row → List ℕ
 entryText row =
     (101 ∷ 110 ∷ 116 ∷ 114 ∷ 121 ∷ [])
     ++ (value (numberIn row) ++ (value (setupIn row) ++ (value (unitsIn row) ++ (value (companionIn row) ++ (10 ∷ [])))))
 
-unfoldable pub entriesText : List (List ℕ) → List ℕ
+unfoldable pub entriesText : List Row → List ℕ
 entriesText [] = []
 entriesText (row ∷ rows) = entryText row ++ entriesText rows
 
@@ -55,5 +55,5 @@ abbrev pub textMost : ℕ
 textMost = lineMost + 24 * entryMost
 
 -- the line, and behind a placement's its entries
-unfoldable pub textOf : OfferAnswer → List (List ℕ) → List ℕ
+unfoldable pub textOf : OfferAnswer → List Row → List ℕ
 textOf a slate = lineText a ++ entriesText (take (shown a) slate)

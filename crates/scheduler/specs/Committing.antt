@@ -16,7 +16,7 @@ use Rattle.board.specs.Resources.{withTimeline, withLast, lookup, onBoard}
 use Rattle.board.specs.Valid as board
 use Rattle.board.specs.Enter.{entered, changed}
 use Rattle.scheduler.specs.Alone.{diaryOf}
-use Rattle.scheduler.specs.Rows.{numberIn, unitsIn, isCompanion}
+use Rattle.scheduler.specs.Rows.{Row, numberIn, unitsIn, isCompanion}
 use mathlib.Core.Path.{_≡_}
 use Rattle.scheduler.specs.Alike.{AlikeDiary}
 
@@ -29,11 +29,11 @@ pub record Line : Type 0 where
 abbrev pub lineWith : ℕ → ℕ → Bool → Line
 lineWith number units companion = record { number = number; units = units; companion = companion }
 
-unfoldable pub lineOf : List ℕ → Line
+unfoldable pub lineOf : Row → Line
 lineOf row = lineWith (numberIn row) (unitsIn row) (isCompanion row)
 
 -- the first `count` entries of the slate
-unfoldable pub linesOf : ℕ → List (List ℕ) → List Line
+unfoldable pub linesOf : ℕ → List Row → List Line
 linesOf count slate = map lineOf (take count slate)
 
 -- how many entries a resource has
@@ -51,7 +51,7 @@ linesRefusal b ls start end category =
     (cond (not (every (λ l. leb (diaryOf b (l .number) .len + entriesOn (l .number) ls) mostBookings) ls)) 4 0))))
 
 -- 15 before all else; no entries: accepted; 7 entry count above the slate; then the rest
-unfoldable pub commitRefusal : Board → List (List ℕ) → ℕ → ℕ → ℕ → ℕ → ℕ
+unfoldable pub commitRefusal : Board → List Row → ℕ → ℕ → ℕ → ℕ → ℕ
 commitRefusal b slate count start end category =
     cond (not (board.valid b)) 15
     (cond (eqb count 0) 0
@@ -73,7 +73,7 @@ bookAll start end category (l ∷ ls) b =
     bookAll start end category ls (changed b (lookup b (l .number)) (booked start end category l))
 
 -- what committing the first `count` entries of the slate replies
-unfoldable pub commitReply : Board → List (List ℕ) → ℕ → ℕ → ℕ → ℕ → Entered
+unfoldable pub commitReply : Board → List Row → ℕ → ℕ → ℕ → ℕ → Entered
 commitReply b slate count start end category =
     entered (commitRefusal b slate count start end category) b (bookAll start end category (linesOf count slate) b)
 

@@ -17,7 +17,7 @@ use Rattle.scheduler.specs.Alone.{Share, spanOf}
 use Rattle.scheduler.specs.Choosing.{Choice, noChoice, chosen, choosing}
 use Rattle.scheduler.specs.declared.Entry.{Entry}
 use Rattle.scheduler.specs.Fitting.{entriesOf, spanTogether, sharesOf, fitting, endOf}
-use Rattle.scheduler.specs.Rows.{rowOf}
+use Rattle.scheduler.specs.Rows.{Row, rowOf}
 
 -- a placement: the choosing instant, the start and the end, and the entries
 pub record Placement : Type 0 where
@@ -75,7 +75,7 @@ unfoldable pub placeReply : Board → Activity → ℕ → ℕ → Reply
 placeReply b a ready slate = refusedOr refused (placeRefusal b a ready slate) (placing b a (readyOf (a .release) ready))
 
 -- a placement stands at the front of the slate, and nothing else is written
-unfoldable pub slateAfter : Reply → List (List ℕ) → List (List ℕ)
+unfoldable pub slateAfter : Reply → List Row → List Row
 slateAfter (placed p) slate = map rowOf (p .entries) ++ drop (length (p .entries)) slate
 slateAfter (chosenNone t) slate = slate
 slateAfter none slate = slate

@@ -6,22 +6,26 @@ use lib.ListN.{getD}
 use lib.Dec.{eqb}
 use Rattle.scheduler.specs.declared.Entry.{Entry}
 
+-- the words of a row
+abbrev pub Row : Type 0
+Row = List ℕ
+
 -- an entry on the slate: number, setup, units, companion 0 or 1
-unfoldable pub rowOf : Entry → List ℕ
+unfoldable pub rowOf : Entry → Row
 rowOf e = e .number ∷ e .setup ∷ e .units ∷ cond (e .companion) 1 0 ∷ []
 
-abbrev pub numberIn : List ℕ → ℕ
+abbrev pub numberIn : Row → ℕ
 numberIn row = getD row 0 0
 
-abbrev pub setupIn : List ℕ → ℕ
+abbrev pub setupIn : Row → ℕ
 setupIn row = getD row 1 0
 
-abbrev pub unitsIn : List ℕ → ℕ
+abbrev pub unitsIn : Row → ℕ
 unitsIn row = getD row 2 0
 
-abbrev pub companionIn : List ℕ → ℕ
+abbrev pub companionIn : Row → ℕ
 companionIn row = getD row 3 0
 
 -- any word but 0
-abbrev pub isCompanion : List ℕ → Bool
+abbrev pub isCompanion : Row → Bool
 isCompanion row = not (eqb (companionIn row) 0)

@@ -12,7 +12,7 @@ use Rattle.activity.specs.declared.Activity.{Activity}
 use Rattle.board.specs.declared.Board.{Board}
 use Rattle.scheduler.specs.declared.Entry.{Entry}
 use Rattle.scheduler.specs.Placing.{Placement, Reply, placed, chosenNone, none, refused, placeReply, slateAfter, choosingInstant, refusalOf}
-use Rattle.scheduler.specs.Rows.{rowOf, numberIn}
+use Rattle.scheduler.specs.Rows.{Row, rowOf, numberIn}
 use Rattle.cells.specs.Every.{Each}
 use Rattle.cells.specs.Laws.Each.{each-of-map}
 use Rattle.scheduler.specs.Alike.{Alike, NoExtra}
@@ -23,16 +23,16 @@ use Rattle.placing.specs.declared.PlaceReply.the-variants as reply
 use Rattle.placing.specs.Told.{placedOf, told, instantOf, refusedBy}
 
 -- a call on a board with an order, from ready on, over a slate: its answer and the slate afterwards (the contract of `place_activity`)
-pub record Called (b : Board) (a : Activity) (ready : ℕ) (slate : List (List ℕ)) (r : PlaceReply) (after : List (List ℕ)) : Type 0 where
+pub record Called (b : Board) (a : Activity) (ready : ℕ) (slate : List Row) (r : PlaceReply) (after : List Row) : Type 0 where
   pub reply : r ≡ told (placeReply b a ready (length slate))
   pub rows : after ≡ slateAfter (placeReply b a ready (length slate)) slate
 
 -- no extra is on the resource of a row
-abbrev pub RowSpared : Board → Board → List ℕ → Type 0
+abbrev pub RowSpared : Board → Board → Row → Type 0
 RowSpared b c row = NoExtra b c (numberIn row)
 
 -- The first call's answer r and slate `after`, the second's q and `later`, on a board with extra bookings.
-pub record Calls (b c : Board) (r : PlaceReply) (after : List (List ℕ)) (q : PlaceReply) (later : List (List ℕ)) : Type 0 where
+pub record Calls (b c : Board) (r : PlaceReply) (after : List Row) (q : PlaceReply) (later : List Row) : Type 0 where
   -- where the first gives a placement and no extra is on a resource it reports, the second answers the same ..
   pub same-placement : (p : Placed) → r ≡ reply.Placed p → Each (RowSpared b c) (take (p .count) after) → q ≡ reply.Placed p
   -- .. with the same rows
@@ -77,9 +77,9 @@ told-placed (chosenNone u) p h = absurd (not-both true refl (sym (ap isPlaced h)
 told-placed none p h = absurd (not-both true refl (sym (ap isPlaced h)))
 told-placed (refused m) p h = absurd (not-both true refl (sym (ap isPlaced h)))
 
-module _ (b c : Board) (k : Alike b c) (a : Activity) (ready : ℕ) (slate other : List (List ℕ))
+module _ (b c : Board) (k : Alike b c) (a : Activity) (ready : ℕ) (slate other : List Row)
     (both : ltb (length slate) 24 ≡ ltb (length other) 24)
-    (r q : PlaceReply) (after later : List (List ℕ)) (first : Called b a ready slate r after) (second : Called c a ready other q later) where
+    (r q : PlaceReply) (after later : List Row) (first : Called b a ready slate r after) (second : Called c a ready other q later) where
   theorem : Demand3 b c a ready slate other
   theorem = demand-3 b c k a ready slate other both
 

@@ -15,6 +15,7 @@ use Rattle.board.specs.Valid as board
 use Rattle.board.specs.Enter.{entered, changed}
 use Rattle.scheduler.specs.Committing.{takesCategory, Line, entriesOn, linesOf, linesRefusal, commitRefusal, booked, bookAll, commitReply, Framed}
 use Rattle.scheduler.specs.Laws.Committed.{step-same, step-number, step-len, step-transport, step-long, framed-self, framed-on, step-framed, step-last, all-keep, all-fine}
+use Rattle.scheduler.specs.Rows.{Row}
 
 module _ (start end category : ℕ) where
   -- no entry on it: nothing has changed there
@@ -69,7 +70,7 @@ module _ (start end category : ℕ) where
       ∙ step-last start end category b l i h (not-true (takesCategory (resourceAt b i) l) (w .0))
 
 -- a committed board keeps the rules
-pub commit-keeps : (b : Board) (slate : List (List ℕ)) (count start end category : ℕ) → length (b .resources) ≡ 16 → board.valid b ≡ true
+pub commit-keeps : (b : Board) (slate : List Row) (count start end category : ℕ) → length (b .resources) ≡ 16 → board.valid b ≡ true
     → board.valid (commitReply b slate count start end category .board) ≡ true
 unfolding commitReply commitRefusal entered linesOf bookAll
 commit-keeps b slate count start end category long v = go (commitRefusal b slate count start end category) refl

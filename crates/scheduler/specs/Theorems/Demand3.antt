@@ -17,13 +17,13 @@ use Rattle.board.specs.declared.Board.{Board}
 use Rattle.board.specs.Valid as board
 use Rattle.calendar.specs.Refusals.{refusedOr}
 use Rattle.scheduler.specs.Placing.{Placement, Reply, placed, refused, placing, placeRefusal, placeReply, slateAfter, choosingInstant, refusalOf}
-use Rattle.scheduler.specs.Rows.{rowOf}
+use Rattle.scheduler.specs.Rows.{Row, rowOf}
 use Rattle.cells.specs.Every.{Each}
 use Rattle.scheduler.specs.Alike.{Alike, NoExtra}
 use Rattle.scheduler.specs.Laws.AlikePlacing.{isPlaced, not-placed, placing-unrefused, placing-same, placing-later}
 
 -- Two boards alike but for extra bookings on the second, one order, one ready time, and two slates, both under 24 entries or neither.
-pub record Demand3 (b c : Board) (a : Activity) (ready : ℕ) (slate other : List (List ℕ)) : Type 0 where
+pub record Demand3 (b c : Board) (a : Activity) (ready : ℕ) (slate other : List Row) : Type 0 where
   -- where the first gives a placement and no extra is on a resource it reports, the placement comes out identical on the second ..
   pub same-placement : (p : Placement) → placeReply b a ready (length slate) ≡ placed p → Each (λ x. NoExtra b c (x .number)) (p .entries)
       → placeReply c a ready (length other) ≡ placed p
@@ -35,7 +35,7 @@ pub record Demand3 (b c : Board) (a : Activity) (ready : ℕ) (slate other : Lis
   -- the second refuses exactly when the first does, with the same number
   pub same-refusal : refusalOf (placeReply b a ready (length slate)) ≡ refusalOf (placeReply c a ready (length other))
 
-module _ (b c : Board) (k : Alike b c) (a : Activity) (ready : ℕ) (slate other : List (List ℕ)) (both : ltb (length slate) 24 ≡ ltb (length other) 24) where
+module _ (b c : Board) (k : Alike b c) (a : Activity) (ready : ℕ) (slate other : List Row) (both : ltb (length slate) 24 ≡ ltb (length other) 24) where
   refusals : placeRefusal b a ready (length slate) ≡ placeRefusal c a ready (length other)
   unfolding placeRefusal
   refusals = rw (k .first-valid, k .second-valid, both) refl
@@ -79,7 +79,7 @@ module _ (b c : Board) (k : Alike b c) (a : Activity) (ready : ℕ) (slate other
   unfolding placeReply
   same-numbers = refusal-is b (placeRefusal b a ready (length slate)) ∙ ap (λ n. refusedOr at n nothing) refusals ∙ sym (refusal-is c (placeRefusal c a ready (length other)))
 
-  written : (p : Placement) (r : Reply) (l : List (List ℕ)) → r ≡ placed p → take (length (p .entries)) (slateAfter r l) ≡ map rowOf (p .entries)
+  written : (p : Placement) (r : Reply) (l : List Row) → r ≡ placed p → take (length (p .entries)) (slateAfter r l) ≡ map rowOf (p .entries)
   unfolding slateAfter
   written p r l h =
       ap (λ (x : Reply). take (length (p .entries)) (slateAfter x l)) h

@@ -20,7 +20,7 @@ use Rattle.scheduler.specs.Choosing.{Held, Choice, noChoice, chosen, cho
 use Rattle.scheduler.specs.declared.Entry.{Entry}
 use Rattle.scheduler.specs.Fitting.{entriesOf, spanTogether, sharesOf, suits, fitting, endOf}
 use Rattle.scheduler.specs.Placing.{Placement, Reply, placed, chosenNone, none, refused, ended, started, fitted, fitChosen, timeOnly, byRequirements, placing, slateAfter}
-use Rattle.scheduler.specs.Rows.{rowOf}
+use Rattle.scheduler.specs.Rows.{Row, rowOf}
 use Rattle.scheduler.specs.Plain.{enough, heldAt, Chooses}
 use Rattle.scheduler.specs.Laws.Together.{Sound}
 use Rattle.scheduler.specs.Laws.Events.{above-length}
@@ -122,10 +122,10 @@ time-only-plain b a open-ever never-shut ready alone =
     rw alone (_, plainly a open-ever never-shut (spanOf (a .duration .setup) (a .duration)) ready (a .resumable), refl, refl, refl, refl)
 
 -- Placing writes no slate entry beyond those it reports, and none at all without a placement.
-pub slate-rest : (p : Placement) (slate : List (List ℕ)) → drop (length (p .entries)) (slateAfter (placed p) slate) ≡ drop (length (p .entries)) slate
+pub slate-rest : (p : Placement) (slate : List Row) → drop (length (p .entries)) (slateAfter (placed p) slate) ≡ drop (length (p .entries)) slate
 unfolding slateAfter
 slate-rest p slate = drop-at (map rowOf (p .entries)) (drop (length (p .entries)) slate) (length (p .entries)) (length-map (p .entries) rowOf)
 
-pub slate-same : (t n : ℕ) (slate : List (List ℕ)) → (slateAfter (chosenNone t) slate ≡ slate) × (slateAfter none slate ≡ slate) × (slateAfter (refused n) slate ≡ slate)
+pub slate-same : (t n : ℕ) (slate : List Row) → (slateAfter (chosenNone t) slate ≡ slate) × (slateAfter none slate ≡ slate) × (slateAfter (refused n) slate ≡ slate)
 unfolding slateAfter
 slate-same t n slate = (refl, refl, refl)
