@@ -15,7 +15,7 @@ use Rattle.calendar.specs.Laws.Searching.{least-answers}
 use Rattle.calendar.specs.Theorems.Meaning.{fits-is, working-is}
 use Rattle.calendar.specs.Laws.Running.{run-done}
 use Rattle.timeline.specs.declared.ResourceTimeline.{ResourceTimeline}
-use Rattle.timeline.specs.Bookings.{Booking, latestEnd, same, times, Within}
+use Rattle.timeline.specs.Bookings.{Booking, booking, latestEnd, same, times, Within}
 use Rattle.timeline.specs.Valid.{valid}
 use Rattle.timeline.specs.Free.{onAt, tally, load, free}
 use Rattle.timeline.specs.Earliest.{fitsAt, freeTo, startsAt, lastEvent, earliestFit, earliestResumable}
@@ -63,7 +63,7 @@ same-is a b h =
     let x : a .start ≡ b .start = eqb-true _ _ (w .0) in
     let y : a .end ≡ b .end = eqb-true _ _ (v .0) in
     let z : a .units ≡ b .units = eqb-true _ _ (v .1) in
-    λ i. record { start = x i; end = y i; units = z i }
+    λ i. booking (x i) (y i) (z i)
 
 remove : Booking → List Booking → List Booking
 remove b [] = []
