@@ -1,6 +1,6 @@
 // An order as it is made, and with one thing changed. (A field that is no enum and no array's cell is changed by assignment.)
-ghost use Rattle.core.specs.Prelude.{◌≡◌};
-ghost use Rattle.activity.specs.Order.{order_with, with_release};
+ghost use Rattle.core.specs.Prelude.{◌≡◌, ◌≤◌};
+ghost use Rattle.activity.specs.Order.{order_with, with_release, with_requirement, with_timing};
 
 use crate::{Activity, ActivityDuration, Release, ResourceRequirement, ResourceTiming, Timed};
 use calendar::Calendar;
@@ -58,4 +58,31 @@ pub fn with_release(a: Activity, release: Release) -> Activity
         len: a.len,
         timings: timings,
     }
+}
+
+// One requirement more. Four are kept; of a fifth only the count tells, and 5 stands for any count above.
+pub fn with_requirement(activity: Activity, q: ResourceRequirement) -> Activity
+    ensures { result ≡ with_requirement activity q }
+{
+    let n = activity.len;
+    if n > 4 {
+        return activity;
+    }
+    let mut a = activity;
+    a.len = n + 1;
+    if n == 4 {
+        return a;
+    }
+    a.requirements[n] = q;
+    a
+}
+
+// The order with a timing on the resource of a number.
+pub fn with_timing(activity: Activity, number: u8, timing: ResourceTiming) -> Activity
+    requires { number ≤ 15 }
+    ensures { result ≡ with_timing activity number timing }
+{
+    let mut a = activity;
+    a.timings[number as usize] = Timed { timing: timing };
+    a
 }

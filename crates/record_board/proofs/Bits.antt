@@ -1,10 +1,14 @@
--- Signed numbers by their 64 bits.
+-- Signed numbers and doubles by their 64 bits.
 use mathlib.Core.Path.{◌≡◌, refl, sym, ap, subst, ◌∙◌}
-use Prim.Native.Nat.{ℕ, zero, suc, ◌-◌, ◌^◌, ◌≤◌, ◌<◌}
+use mathlib.Core.Bool.{Bool, true, false, not}
+use Prim.Native.Nat.{ℕ, zero, suc, ◌*◌, ◌-◌, ◌%◌, ◌^◌, ◌≤◌, ◌<◌}
 use native.Mathlib.Omega.{arith}
 use mathlib.Core.Logic.{⊎_elim}
 use Rattle.cells.specs.Laws.Basics.{lt-or-ge}
 use lib.IntN.{ℤ, pos, negsuc, ◌-ℤ◌}
+use lib.Dec.{T}
+use lib.Ieee.{Float, nan, inf, fin, binary64, ones, hid, top, of_bits, nan_bits, is_nan, div}
+use lib.Ieee.Bits.{nan_bits_is, nan_bits_above}
 use mir.Syntax.{w64}
 use mir.Val.{SFits, to_z, of_z}
 use mir.ValLaws.{to_z_pos, to_z-of_z}
@@ -46,3 +50,21 @@ signed-fits n h =
 -- a signed number that is passed on comes back as itself
 pub back : (z : ℤ) (n : ℕ) → z ≡ signed n → n < 256 ^ 8 → to_z w64 (of_z w64 z) ≡ signed n
 back z n e h = to_z-of_z w64 z (subst (λ (y : ℤ). SFits w64 y) (sym e) (signed-fits n h)) ∙ e
+
+-- the bits of a double with the sign's dropped are above an infinity's exactly for a NaN
+is-nan : (n : ℕ) → 9218868437227405312 < n % 9223372036854775808 → nan_bits binary64 n ≡ true
+is-nan n h = nan_bits_above binary64 n ∙ lt-ltb (ones binary64 * hid binary64) (n % top binary64) h
+
+pub no_nan : (n : ℕ) → n % 9223372036854775808 ≤ 9218868437227405312 → nan_bits binary64 n ≡ false
+no_nan n h = nan_bits_above binary64 n ∙ le-ltb (ones binary64 * hid binary64) (n % top binary64) h
+
+the_nan : (x : Float) → is_nan x ≡ true → nan ≡ x
+unfolding is_nan
+the_nan nan e = refl
+the_nan (inf s) e = absurd (subst (λ (b : Bool). T (not b)) e tt)
+the_nan (fin s m x) e = absurd (subst (λ (b : Bool). T (not b)) e tt)
+
+-- zero divided by zero is the NaN
+pub nan_is : (n : ℕ) → 9218868437227405312 < n % 9223372036854775808 → div binary64 (of_bits binary64 0) (of_bits binary64 0) ≡ of_bits binary64 n
+unfolding div of_bits
+nan_is n h = the_nan (of_bits binary64 n) (sym (nan_bits_is binary64 n) ∙ is-nan n h)

@@ -1,3 +1,4 @@
--- What records of kinds 16 to 20 do to a board (docs/RECORDS.md); then runs on the definitions.
+-- What records of kinds 1 to 4 and 16 to 24 do (docs/RECORDS.md): the order, each record; then runs on the definitions.
+pub mod Orders
 pub mod Records
 pub mod Theorems

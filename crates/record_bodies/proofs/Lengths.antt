@@ -1,60 +1,147 @@
--- The length of a record's body, and its head, from what the code reads.
-use mathlib.Core.Path.{◌≡◌, refl, ap}
-use mathlib.Core.Bool.{true, false}
+-- The length of a record's body, by its kind.
+use mathlib.Core.Path.{◌≡◌, refl, sym, ap}
 use mathlib.Core.List.{List}
-use Prim.Native.Nat.{ℕ, ◌+◌, ◌*◌, ◌-◌, ◌≤◌, ◌<◌}
-use native.Mathlib.Nat.{mul-le-mul_right}
+use mathlib.Core.Logic.{⊎_elim}
+use Prim.Native.Nat.{ℕ, zero, suc, ◌+◌, ◌-◌, ◌≤◌, ◌<◌}
+use native.Mathlib.Nat.{eq-or-lt_of_le}
 use native.Mathlib.Omega.{arith}
-use lib.Dec.{ltb}
-use borrow.Author.Tests.{lt-ltb, le-ltb, le-leb, lt-leb}
-use Rattle.record_bodies.specs.declared.kinds.Group.TheVariants.{End, Unknown}
-use Rattle.record_bodies.specs.declared.kinds.Body.{Body}
-use Rattle.record_bodies.specs.Kinds.{body_of}
-use Rattle.record_bodies.specs.Laws.Kinds.{counts}
-use Rattle.record_bodies.specs.Bodies.{byte, counted_len, len_of, stop, head_at, head_of}
+use mathlib.Core.Bool.{false}
+use lib.Dec.{eqb}
+use borrow.Author.Tests.{lt-ltb, le-ltb, le-leb, lt-leb, eq-eqb, ne_eqb}
+use Rattle.cells.specs.Laws.Basics.{lt-or-ge}
+use Rattle.record_bodies.specs.Bodies.{byte, diary_len, fixed_len, len_of, whole, body_len}
 
-pub counts-none : (fixed each : ℕ) (bs : List ℕ) (i : ℕ) → each ≡ 0 → 0 ≡ counted_len fixed each bs i
-unfolding counted_len
-counts-none fixed each bs i e = rw e (omega arith)
+-- a diary's kinds
+pub kind-four : (k : ℕ) → k ≡ 1 → 4 ≡ diary_len k
+unfolding diary_len
+kind-four k e = sym (ap diary_len e)
 
-pub counts_some : (fixed each b : ℕ) (bs : List ℕ) (i : ℕ) → b ≡ byte bs (i + fixed - 1) → each * b ≡ counted_len fixed each bs i
-unfolding counted_len
-counts_some fixed each b bs i e = ap (λ (x : ℕ). each * x) e
+pub kind-sixteen : (k : ℕ) → 2 ≤ k → k ≤ 3 → 16 ≡ diary_len k
+unfolding diary_len
+kind-sixteen k l h = ⊎_elim (λ (e : 2 ≡ k). ap diary_len e) (λ (a : 2 < k). sym (ap diary_len (let e : k ≡ 3 = omega arith in e))) (eq-or-lt_of_le l)
 
-pub small : (each b : ℕ) → each ≤ 255 → b < 256 → each * b ≤ 65025
-small each b l h = omega (arith, mul-le-mul_right b l)
+pub kind-twenty : (k : ℕ) → 4 ≤ k → k ≤ 6 → 20 ≡ diary_len k
+unfolding diary_len
+kind-twenty k l h =
+    ⊎_elim (λ (e : 4 ≡ k). ap diary_len e)
+    (λ (a : 4 < k). ⊎_elim (λ (e : 5 ≡ k). ap diary_len e) (λ (b : 5 < k). sym (ap diary_len (let e : k ≡ 6 = omega arith in e))) (eq-or-lt_of_le a))
+    (eq-or-lt_of_le l)
 
-pub counts_of : (b : Body) (k : ℕ) → b ≡ body_of k → (b.each ≤ 255) × (b.each ≤ b.fixed)
-counts_of b k e = rw e (counts k)
+pub kind-zero : (k : ℕ) → k < 1 → 0 ≡ diary_len k
+unfolding diary_len
+kind-zero zero h = refl
+kind-zero (suc k) h = absurd (omega arith)
 
--- a body with what its last byte counts
-pub len_is : (k : ℕ) (bs : List ℕ) (i : ℕ) (b : Body) (m : ℕ) → b ≡ body_of k → m ≡ counted_len b.fixed b.each bs i → b.fixed + m ≡ len_of k bs i
+pub kind-more : (k : ℕ) → 6 < k → 0 ≡ diary_len k
+unfolding diary_len
+kind-more k h =
+    let a : eqb k 1 ≡ false = ne_eqb k 1 (λ e. omega arith) in
+    let b : eqb k 2 ≡ false = ne_eqb k 2 (λ e. omega arith) in
+    let d : eqb k 3 ≡ false = ne_eqb k 3 (λ e. omega arith) in
+    let f : eqb k 4 ≡ false = ne_eqb k 4 (λ e. omega arith) in
+    let g : eqb k 5 ≡ false = ne_eqb k 5 (λ e. omega arith) in
+    let i : eqb k 6 ≡ false = ne_eqb k 6 (λ e. omega arith) in
+    simp (a, b, d, f, g, i)
+
+-- a body that is known, and not of kinds 1 to 3, has 20 bytes; and not of kind 1, at least 16
+pub at-least-twenty : (k : ℕ) → (k ≡ 1 → ⊥) → (k ≡ 2 → ⊥) → (k ≡ 3 → ⊥) → 0 < diary_len k → 20 ≤ diary_len k
+at-least-twenty k h i j p =
+    ⊎_elim
+    (λ (a : k < 4). absurd (omega (arith, kind-zero k (omega (arith, h, i, j)))))
+    (λ (a : 4 ≤ k). ⊎_elim (λ (b : k < 7). omega (arith, kind-twenty k a (omega arith))) (λ (b : 7 ≤ k). absurd (omega (arith, kind-more k b))) (lt-or-ge k 7))
+    (lt-or-ge k 4)
+
+pub at-least-sixteen : (k : ℕ) → (k ≡ 1 → ⊥) → 0 < diary_len k → 16 ≤ diary_len k
+at-least-sixteen k h p =
+    ⊎_elim
+    (λ (a : k < 2). absurd (omega (arith, kind-zero k (omega (arith, h)))))
+    (λ (a : 2 ≤ k).
+    ⊎_elim (λ (b : k < 4). omega (arith, kind-sixteen k a (omega arith))) (λ (b : 4 ≤ k). omega (arith, at-least-twenty k h (λ e. omega arith) (λ e. omega arith) p)) (lt-or-ge k 4))
+    (lt-or-ge k 2)
+
+pub as-diary : (k : ℕ) → k ≤ 4 → diary_len k ≡ fixed_len k
+unfolding fixed_len
+as-diary k h = rw (le-leb k 4 h) refl
+
+-- which kind it is (with `fixed_len` unfolded, its length)
+pub fixed-at : (k n : ℕ) → k ≡ n → fixed_len k ≡ fixed_len n
+fixed-at k n e = ap fixed_len e
+
+pub nineteen-twenty : (k : ℕ) → 19 ≤ k → k ≤ 20 → fixed_len k ≡ 10
+unfolding fixed_len
+nineteen-twenty k l h = ⊎_elim (λ (e : 19 ≡ k). fixed-at k 19 (sym e)) (λ (a : 19 < k). fixed-at k 20 (omega arith)) (eq-or-lt_of_le l)
+
+-- no other kind is known
+pub unknown : (k : ℕ) → 4 < k → (k ≡ 17 → ⊥) → (k ≡ 18 → ⊥) → (k ≡ 19 → ⊥) → (k ≡ 20 → ⊥) → (k ≡ 21 → ⊥) → (k ≡ 22 → ⊥) → (k ≡ 23 → ⊥) → (k ≡ 24 → ⊥) → fixed_len k ≡ 0
+unfolding fixed_len
+unknown k h h17 h18 h19 h20 h21 h22 h23 h24 =
+    simp (lt-leb k 4 h, ne_eqb k 17 h17, ne_eqb k 18 h18, ne_eqb k 19 h19, ne_eqb k 20 h20, ne_eqb k 21 h21, ne_eqb k 22 h22, ne_eqb k 23 h23, ne_eqb k 24 h24)
+
+-- the kinds from 5 on
+pub from-seventeen : (k : ℕ) → 4 < k → 0 < fixed_len k → (17 ≤ k) × (k ≤ 24)
+from-seventeen k l h =
+    ⊎_elim
+    (λ (a : k < 17). absurd (omega (arith, unknown k l (λ e. omega arith) (λ e. omega arith) (λ e. omega arith) (λ e. omega arith) (λ e. omega arith) (λ e. omega arith) (λ e. omega arith) (λ e. omega arith))))
+    (λ (a : 17 ≤ k).
+    ⊎_elim
+    (λ (b : k < 25). (omega arith, omega arith))
+    (λ (b : 25 ≤ k). absurd (omega (arith, unknown k l (λ e. omega arith) (λ e. omega arith) (λ e. omega arith) (λ e. omega arith) (λ e. omega arith) (λ e. omega arith) (λ e. omega arith) (λ e. omega arith))))
+    (lt-or-ge k 25))
+    (lt-or-ge k 17)
+
+-- an entry of the board has at least ten bytes
+pub ten : (k : ℕ) → 17 ≤ k → k ≤ 20 → 10 ≤ fixed_len k
+unfolding fixed_len
+ten k l h =
+    ⊎_elim (λ (e : 17 ≡ k). omega (arith, fixed-at k 17 (sym e)))
+    (λ (a : 17 < k).
+    ⊎_elim (λ (e : 18 ≡ k). omega (arith, fixed-at k 18 (sym e)))
+    (λ (b : 18 < k).
+    ⊎_elim (λ (e : 19 ≡ k). omega (arith, fixed-at k 19 (sym e))) (λ (d : 19 < k). omega (arith, fixed-at k 20 (omega arith))) (eq-or-lt_of_le (omega arith)))
+    (eq-or-lt_of_le (omega arith)))
+    (eq-or-lt_of_le l)
+
+pub of-fixed : (k : ℕ) (bs : List ℕ) (i : ℕ) → (k ≡ 16 → ⊥) → len_of k bs i ≡ fixed_len k
 unfolding len_of
-len_is k bs i b m e f = rw (← e, f) refl
+of-fixed k bs i h = rw (ne_eqb k 16 h) refl
 
--- the three heads
-module _ (bs : List ℕ) (i n : ℕ) where
-  pub head-ended : n ≤ i → stop End i ≡ head_of bs i n
-  unfolding head_of
-  head-ended h = rw (le-leb n i h) refl
+pub of-resource : (k : ℕ) (bs : List ℕ) (i : ℕ) → k ≡ 16 → len_of k bs i ≡ 11 + byte bs (i + 10)
+unfolding len_of
+of-resource k bs i h = rw (eq-eqb k 16 h) refl
 
-  module _ (b : Body) (h : i < n) (e : b ≡ body_of (byte bs i)) where
-    pub head-short : n - (i + 1) < b.fixed → stop Unknown i ≡ head_of bs i n
-    unfolding head_of
-    head-short l =
-        let m = len_is (byte bs i) bs (i + 1) b (counted_len b.fixed b.each bs (i + 1)) e refl in
-        let c : ltb (n - (i + 1)) (len_of (byte bs i) bs (i + 1)) ≡ true = lt-ltb (n - (i + 1)) (len_of (byte bs i) bs (i + 1)) (omega (arith, m)) in
-        rw (lt-leb n i h, c) refl
+pub whole-cut : (rest len : ℕ) → rest < len → 0 ≡ whole rest len
+unfolding whole
+whole-cut rest len h = rw (lt-ltb rest len h) refl
 
-    module _ (m : ℕ) (f : m ≡ len_of (byte bs i) bs (i + 1)) where
-      pub head-cut : n - (i + 1) < m → stop Unknown i ≡ head_of bs i n
-      unfolding head_of
-      head-cut l =
-          let c : ltb (n - (i + 1)) (len_of (byte bs i) bs (i + 1)) ≡ true = lt-ltb (n - (i + 1)) (len_of (byte bs i) bs (i + 1)) (omega (arith, f)) in
-          rw (lt-leb n i h, c) refl
+pub whole-there : (rest len : ℕ) → len ≤ rest → len ≡ whole rest len
+unfolding whole
+whole-there rest len h = rw (le-ltb rest len h) refl
 
-      pub head-whole : m ≤ n - (i + 1) → record { group = b.group; kind = byte bs i; body = i + 1; next = i + 1 + m } ≡ head_of bs i n
-      unfolding head_of head_at
-      head-whole l =
-          let c : ltb (n - (i + 1)) (len_of (byte bs i) bs (i + 1)) ≡ false = le-ltb (n - (i + 1)) (len_of (byte bs i) bs (i + 1)) (omega (arith, f)) in
-          rw (lt-leb n i h, c, ← e, ← f) refl
+-- what is whole is there
+pub there : (rest len : ℕ) → (whole rest len ≡ 0 → ⊥) → (len ≤ rest) × (0 < len) × (whole rest len ≡ len)
+there rest len h =
+    ⊎_elim
+    (λ (a : rest < len). absurd (h (sym (whole-cut rest len a))))
+    (λ (a : len ≤ rest). let e = whole-there rest len a in (a, omega (arith, e), sym e))
+    (lt-or-ge rest len)
+
+pub body_of : (k : ℕ) (bs : List ℕ) (i n : ℕ) (r len : ℕ) → len_of k bs i ≡ len → r ≡ whole (n - i) len → r ≡ body_len k bs i n
+unfolding body_len
+body_of k bs i n r len a b = rw a b
+
+-- a part of an order has at least nine bytes
+pub nine : (k : ℕ) → 22 ≤ k → k ≤ 24 → 9 ≤ fixed_len k
+unfolding fixed_len
+nine k l h =
+    ⊎_elim (λ (e : 22 ≡ k). omega (arith, fixed-at k 22 (sym e)))
+    (λ (a : 22 < k).
+    ⊎_elim (λ (e : 23 ≡ k). omega (arith, fixed-at k 23 (sym e))) (λ (b : 23 < k). omega (arith, fixed-at k 24 (omega arith))) (eq-or-lt_of_le (omega arith)))
+    (eq-or-lt_of_le l)
+
+whole_le : (rest len : ℕ) → whole rest len ≤ rest
+whole_le rest len =
+    ⊎_elim (λ (a : rest < len). omega (arith, whole-cut rest len a)) (λ (a : len ≤ rest). omega (arith, whole-there rest len a)) (lt-or-ge rest len)
+
+pub body-le : (k : ℕ) (bs : List ℕ) (i n : ℕ) → body_len k bs i n ≤ n - i
+unfolding body_len
+body-le k bs i n = whole_le (n - i) (len_of k bs i)

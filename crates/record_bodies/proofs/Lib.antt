@@ -1,4 +1,3 @@
--- Laws of numbers, of lengths and of groups, for the proofs of this crate and of the programs.
+-- Laws of numbers and of lengths, for the proofs of this crate and of those above it.
 pub mod Figures
 pub mod Lengths
-pub mod Groups

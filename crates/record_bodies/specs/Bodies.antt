@@ -1,47 +1,37 @@
--- A record of a stream: where its body begins, and where the next record.
-use Rattle.std.specs.Prelude.{ℕ, ◌+◌, ◌*◌, ◌-◌, ◌≤◌, ◌≡◌, cond, List, length, get_or, leb, ltb}
-use Rattle.record_bodies.specs.declared.kinds.Group.{Group}
-use Rattle.record_bodies.specs.declared.kinds.Group.TheVariants.{End, Unknown}
-use Rattle.record_bodies.specs.declared.Head.{Head}
-use Rattle.record_bodies.specs.Kinds.{body_of}
+-- The length of a record's body, by its kind.
+use Rattle.std.specs.Prelude.{ℕ, ◌+◌, ◌-◌, cond, ◌||◌, List, get_or, leb, ltb, eqb}
 
 -- the byte at index i
 abbrev pub byte : List ℕ → ℕ → ℕ
 byte bs i = get_or bs i 0
 
--- the bytes behind a body that begins at index i: so many for each that its last byte counts
-unfoldable pub counted_len : ℕ → ℕ → List ℕ → ℕ → ℕ
-counted_len fixed each bs i = each * byte bs (i + fixed - 1)
+-- a diary's kinds (01, 'Program slot'). 1: capacity (4 bytes); 2 window, 3 block: start, end (8 each); 4 booking: start, end, units (4);
+-- 5 fit, 6 resumable: from, span, units; 0 for any other kind
+unfoldable pub diary_len : ℕ → ℕ
+diary_len kind =
+    cond (eqb kind 1) 4
+    (cond (eqb kind 2 || eqb kind 3) 16
+    (cond (eqb kind 4 || (eqb kind 5 || eqb kind 6)) 20 0))
 
--- the bytes of a body of this kind that begins at index i
+-- 1 to 4 are a diary's; 17 to 24 by their tables in docs/RECORDS.md; 0 for an unknown kind
+unfoldable pub fixed_len : ℕ → ℕ
+fixed_len kind =
+    cond (leb kind 4) (diary_len kind)
+    (cond (eqb kind 17) 17
+    (cond (eqb kind 18) 11
+    (cond (eqb kind 19 || eqb kind 20) 10
+    (cond (eqb kind 21) 38
+    (cond (eqb kind 22) 19
+    (cond (eqb kind 23) 9
+    (cond (eqb kind 24) 25 0)))))))
+
+-- kind 16 ends with a count, at index 10 of its body, and that many numbers
 unfoldable pub len_of : ℕ → List ℕ → ℕ → ℕ
-len_of kind bs i = (body_of kind).fixed + counted_len (body_of kind).fixed (body_of kind).each bs i
+len_of kind bs i = cond (eqb kind 16) (11 + byte bs (i + 10)) (fixed_len kind)
 
--- no record is read at index i
-unfoldable pub stop : Group → ℕ → Head
-stop g i = record { group = g; kind = 0; body = i; next = i }
+unfoldable pub whole : ℕ → ℕ → ℕ
+whole rest len = cond (ltb rest len) 0 len
 
--- a kind byte and a body that is whole
-unfoldable pub head_at : ℕ → List ℕ → ℕ → Head
-head_at kind bs i = record { group = (body_of kind).group; kind = kind; body = i; next = i + len_of kind bs i }
-
--- the record that begins at index i, the input ending at index n: the input has ended; the body is cut; or its kind's group
-unfoldable pub head_of : List ℕ → ℕ → ℕ → Head
-head_of bs i n =
-    cond (leb n i) (stop End i)
-    (cond (ltb (n - (i + 1)) (len_of (byte bs i) bs (i + 1))) (stop Unknown i)
-    (head_at (byte bs i) bs (i + 1)))
-
--- a record of this group is there: its kind is in the group, and its body, which begins at index i, lies in the bytes
-pub record Whole (g : Group) (kind : ℕ) (bs : List ℕ) (i : ℕ) : Type 0 where
-  pub group : (body_of kind).group ≡ g
-  pub room : i + len_of kind bs i ≤ length bs
-
--- a record as a program read it: what its buffer held, where the record began, and where the input ended
-pub record Read : Type 0 where
-  pub bytes : List ℕ
-  pub at : ℕ
-  pub len : ℕ
-
-abbrev pub head_in : Read → Head
-head_in r = head_of r.bytes r.at r.len
+-- the body that begins at index i, the input ending at index n: 0 for an unknown kind or a cut body
+unfoldable pub body_len : ℕ → List ℕ → ℕ → ℕ → ℕ
+body_len kind bs i n = whole (n - i) (len_of kind bs i)

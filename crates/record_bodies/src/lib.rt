@@ -1,12 +1,60 @@
-// The records of a stream (docs/RECORDS.md): the table of their kinds, the numbers in a body, and where a body and the next record begin.
-mod kinds;
+// The body of a record (docs/RECORDS.md): the numbers in it, and how long it is, of a diary's kinds and of those of a board and an order.
 mod numbers;
 
-ghost use Rattle.std.specs.Prelude.{◌≡◌, ◌+◌, ◌≤◌, ◌<◌, length};
-ghost use Rattle.record_bodies.specs.Bodies.{counted_len, stop as stopped, head_of};
+ghost use Rattle.std.specs.Prelude.{◌≡◌, ◌≤◌, ◌<◌, length};
+ghost use Rattle.record_bodies.specs.Bodies.{diary_len, fixed_len, whole, body_len};
 
-pub use kinds::{Body, Group, body_of};
 pub use numbers::number;
+
+// How many bytes the body of a diary's kind has, 0 for any other kind.
+pub fn diary_len(kind: u8) -> usize
+    ensures { result ≡ diary_len kind }
+{
+    match kind {
+        1 => 4,
+        2 | 3 => 16,
+        4 | 5 | 6 => 20,
+        _ => 0,
+    }
+}
+
+fn board_len(kind: u8) -> usize
+    requires { (4 < kind) × (kind ≤ 20) }
+    ensures { result ≡ fixed_len kind }
+{
+    match kind {
+        17 => 17,
+        18 => 11,
+        19 | 20 => 10,
+        _ => 0,
+    }
+}
+
+fn order_len(kind: u8) -> usize
+    requires { 20 < kind }
+    ensures { result ≡ fixed_len kind }
+{
+    match kind {
+        21 => 38,
+        22 => 19,
+        23 => 9,
+        24 => 25,
+        _ => 0,
+    }
+}
+
+// How many bytes the body of a kind has, 0 for kind 16, whose bodies differ, and for an unknown kind.
+fn fixed_len(kind: u8) -> usize
+    ensures { result ≡ fixed_len kind }
+{
+    if kind <= 4 {
+        return diary_len(kind);
+    }
+    if kind <= 20 {
+        return board_len(kind);
+    }
+    order_len(kind)
+}
 
 // A byte as a number of bytes.
 pub fn wide(b: u8) -> usize
@@ -15,62 +63,24 @@ pub fn wide(b: u8) -> usize
     b as usize
 }
 
-// How many bytes follow that the last byte of a body counts, the body beginning at `at`.
-fn counted_len(fixed: usize, each: usize, bytes: &[u8], at: usize) -> usize
-    requires { (each ≤ 255) × (each ≤ fixed) × (at + fixed ≤ length bytes.now) }
-    ensures value { result ≡ counted_len fixed each bytes.now at }
-    ensures upper_bound { result ≤ 65025 }
+// A length, or 0 where fewer bytes are left.
+fn whole_of(rest: usize, len: usize) -> usize
+    ensures { result ≡ whole rest len }
 {
-    if each == 0 {
+    if rest < len { 0 } else { len }
+}
+
+// How many bytes the body has that begins at `at`, `len` being the end of the input: 0 for an unknown kind or a cut body.
+pub fn body_len(kind: u8, bytes: &[u8], at: usize, len: usize) -> usize
+    requires { (at ≤ len) × (len ≤ length bytes.now) }
+    ensures { result ≡ body_len kind bytes.now at len }
+{
+    let rest = len - at;
+    if kind != 16 {
+        return whole_of(rest, fixed_len(kind));
+    }
+    if rest < 11 {
         return 0;
     }
-    each * wide(bytes[at + fixed - 1])
-}
-
-// A record as its kind byte tells: its group and kind, and where its body and the next record begin.
-#[derive(Drop)]
-pub struct Head {
-    pub group: Group,
-    pub kind: u8,
-    pub body: usize,
-    pub next: usize,
-}
-
-// No record is read here.
-fn stop(group: Group, at: usize) -> Head
-    ensures { result ≡ stopped group at }
-{
-    Head {
-        group: group,
-        kind: 0,
-        body: at,
-        next: at,
-    }
-}
-
-// The head of the record that begins at `at`, `len` being the end of the input.
-pub fn head_of(bytes: &[u8], at: usize, len: usize) -> Head
-    requires { (at ≤ len) × (len ≤ length bytes.now) }
-    ensures { result ≡ head_of bytes.now at len }
-{
-    if at == len {
-        return stop(Group::End, at);
-    }
-    let kind = bytes[at];
-    let b = body_of(kind);
-    let rest = len - at - 1;
-    if rest < b.fixed {
-        return stop(Group::Unknown, at);
-    }
-    let n = b.fixed + counted_len(b.fixed, b.each, bytes, at + 1);
-    if rest < n {
-        return stop(Group::Unknown, at);
-    }
-    let group = b.group;
-    Head {
-        group: group,
-        kind: kind,
-        body: at + 1,
-        next: at + 1 + n,
-    }
+    whole_of(rest, 11 + wide(bytes[at + 10]))
 }

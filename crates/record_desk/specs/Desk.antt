@@ -1,4 +1,4 @@
--- What is in hand while records are read: a diary, an order, a board. The programs hold each by itself.
+-- What is in hand at the start, an empty diary of capacity 1, an order of nothing, an empty board; and with one of the three changed.
 use Rattle.std.specs.Prelude.{false, pos}
 use Rattle.calendar.specs.Add.{empty}
 use Rattle.timeline.specs.declared.ResourceTimeline.{ResourceTimeline}
@@ -8,16 +8,11 @@ use Rattle.activity.specs.declared.Activity.{Activity}
 use Rattle.activity.specs.Order.{order_with}
 use Rattle.board.specs.declared.Board.{Board}
 use Rattle.board.specs.Enter.{empty_board}
-
-pub record Desk : Type 0 where
-  pub timeline : ResourceTimeline
-  pub activity : Activity
-  pub board : Board
+use Rattle.record_desk.specs.declared.Desk.{Desk}
 
 unfoldable pub empty_order : Activity
 empty_order = order_with 0 (record { setup = 0; process = 0; teardown = 0 }) false Absent empty 0
 
--- at the start: an empty diary of capacity 1, an order of nothing, an empty board
 unfoldable pub empty_desk : Desk
 empty_desk = record { timeline = new_diary (pos 1); activity = empty_order; board = empty_board }
 

@@ -1,14 +1,23 @@
-// What is in hand while records are read: a diary, an order, a board, defined in specs/; and the order of nothing that is in hand at the
-// start (docs/RECORDS.md).
+// What is in hand while records are read: a diary, an order, a board; and what it is at the start (docs/RECORDS.md).
 ghost use Rattle.std.specs.Prelude.{◌≡◌};
-ghost use Rattle.record_desk.specs.Desk.{empty_order};
+ghost use Rattle.record_desk.specs.Desk.{empty_order, empty_desk};
 
 use activity::order::order_with;
 use activity::{Activity, ActivityDuration, Release};
+use board::Board;
 use calendar::Calendar;
+use timeline::ResourceTimeline;
+
+// What is in hand: a diary, an order, a board.
+#[derive(Drop)]
+pub struct Desk {
+    pub timeline: ResourceTimeline,
+    pub activity: Activity,
+    pub board: Board,
+}
 
 // An order of nothing.
-pub fn empty_order() -> Activity
+fn empty_order() -> Activity
     ensures { result ≡ empty_order }
 {
     let none = ActivityDuration {
@@ -18,4 +27,20 @@ pub fn empty_order() -> Activity
     };
     let calendar = Calendar::new();
     order_with(0, none, false, Release::Absent, calendar, 0)
+}
+
+impl Desk {
+    // An empty diary of capacity 1, an order of nothing, an empty board.
+    pub fn new() -> Desk
+        ensures { result ≡ empty_desk }
+    {
+        let timeline = ResourceTimeline::new(1);
+        let activity = empty_order();
+        let board = Board::new();
+        Desk {
+            timeline: timeline,
+            activity: activity,
+            board: board,
+        }
+    }
 }

@@ -1,4 +1,3 @@
--- What a record does in `offer`; then what that amounts to.
+-- What a record does in `offer` (docs/RECORDS.md), that a refused one changes nothing, and small runs on the definitions.
 pub mod Offers
 pub mod Theorems
-pub mod Laws

@@ -1,27 +1,28 @@
 -- What a record does in `offer` (docs/RECORDS.md): kinds 1 to 4 and 16 to 24 as elsewhere, 25 places the order in hand on the slate, 26
 -- commits entries of the slate.
-use Rattle.std.specs.Prelude.{ℕ, ◌+◌, Bool, true, false, cond, List, length, eqb}
-use Rattle.activity.specs.declared.Activity.{Activity}
-use Rattle.board.specs.declared.Board.{Board}
-use Rattle.board.specs.declared.Entered.{Entered}
+use Rattle.std.specs.Prelude.{◌≡◌, ℕ, ◌+◌, ◌-◌, ◌≤◌, true, false, not, cond, List, length, leb, eqb}
+use Rattle.record_bodies.specs.Numbers.{little}
 use Rattle.scheduler.specs.Placing.{Reply, slate_after, place_reply}
 use Rattle.scheduler.specs.Committing.{commit_reply}
 use Rattle.scheduler.specs.Rows.{Row}
 use Rattle.placing.specs.declared.PlaceReply.{PlaceReply}
 use Rattle.placing.specs.declared.PlaceReply.TheVariants.{Placed, ChosenNone, None, Refused}
 use Rattle.placing.specs.Told as placed
-use Rattle.record_bodies.specs.declared.kinds.Group.TheVariants.{End, Place, Commit}
-use Rattle.record_bodies.specs.declared.Head.{Head}
-use Rattle.record_bodies.specs.Kinds.{is}
-use Rattle.record_bodies.specs.Numbers.{little}
-use Rattle.record_desk.specs.Desk.{Desk, with_board}
-use Rattle.record_desk.specs.Steps.{Stepped, steps, step_reply}
+use Rattle.record_desk.specs.declared.Desk.{Desk}
+use Rattle.record_board.specs.declared.DeskStepped.{DeskStepped}
+use Rattle.record_bodies.specs.Bodies.{byte, whole, body_len}
+use Rattle.record_board.specs.Records.{entered, step_reply}
+use Rattle.record_offer.specs.declared.OfferTurn.{OfferTurn}
 use Rattle.record_offer.specs.declared.OfferAnswer.{OfferAnswer}
 use Rattle.record_offer.specs.declared.OfferAnswer.TheVariants as answer
 
--- 25: ready (8); the order is placed on the board
-unfoldable pub placing : Board → Activity → List Row → List ℕ → ℕ → Reply
-placing b a slate bs i = place_reply b a (little bs i 8) (length slate)
+-- the body that begins at index i, the input ending at index n: 0 for an unknown kind or a cut body
+unfoldable pub offer_len : ℕ → List ℕ → ℕ → ℕ → ℕ
+offer_len kind bs i n = cond (eqb kind 25) (whole (n - i) 8) (cond (eqb kind 26) (whole (n - i) 20) (body_len kind bs i n))
+
+-- 25: ready (8); the order in hand is placed on the board in hand
+unfoldable pub placing : Desk → List Row → List ℕ → ℕ → Reply
+placing d slate bs i = place_reply d.board d.activity (little bs i 8) (length slate)
 
 unfoldable pub answer_of : PlaceReply → OfferAnswer
 answer_of (Placed p) = answer.Placed p
@@ -30,53 +31,44 @@ answer_of None = answer.None
 answer_of (Refused n) = answer.Refused n
 
 -- the numbers of a placement; 'chosen, none' with the choosing instant; none; a refusal
-unfoldable pub placed_answer : Board → Activity → List Row → List ℕ → ℕ → OfferAnswer
-placed_answer b a slate bs i = answer_of (placed.told (placing b a slate bs i))
+unfoldable pub placed_answer : Desk → List Row → List ℕ → ℕ → OfferAnswer
+placed_answer d slate bs i = answer_of (placed.told (placing d slate bs i))
 
--- the slate afterwards
-abbrev pub placed_slate : Board → Activity → List Row → List ℕ → ℕ → List Row
-placed_slate b a slate bs i = slate_after (placing b a slate bs i) slate
+-- 26: count (4), start, end (8 each); the first count entries of the slate are committed with the order's category, and the board in hand
+-- is the one with their bookings
+unfoldable pub commit_does : Desk → List Row → List ℕ → ℕ → DeskStepped
+commit_does d slate bs i =
+    entered d (commit_reply d.board slate (little bs i 4) (little bs (i + 4) 8) (little bs (i + 12) 8) d.activity.category)
 
--- 26: count (4), start, end (8 each); the first count entries of the slate are committed with the order's category
-unfoldable pub committed : Board → ℕ → List Row → List ℕ → ℕ → Entered
-committed b category slate bs i = commit_reply b slate (little bs i 4) (little bs (i + 4) 8) (little bs (i + 12) 8) category
+-- what a record answers where it is accepted; a refusal is told, and 9 ends the stream
+unfoldable pub told : DeskStepped → OfferAnswer → ℕ → OfferTurn
+told s a i =
+    cond (eqb s.refusal 0) (record { desk = s.desk; answer = a; at = i; more = true })
+    (record { desk = s.desk; answer = answer.Refused s.refusal; at = i; more = not (eqb s.refusal 9) })
 
--- what a record answers where it is accepted; a refusal is told in its place
-unfoldable pub told : ℕ → OfferAnswer → OfferAnswer
-told refusal a = cond (eqb refusal 0) a (answer.Refused refusal)
+unfoldable pub ends : Desk → OfferAnswer → ℕ → OfferTurn
+ends d a i = record { desk = d; answer = a; at = i; more = false }
 
--- a record: what is in hand and on the slate afterwards, what it answers, and whether to go on
-pub record Turned : Type 0 where
-  pub desk : Desk
-  pub slate : List Row
-  pub answer : OfferAnswer
-  pub more : Bool
+-- a record of this kind, its body beginning at index i and the next record at index j
+unfoldable pub record_does : Desk → List Row → ℕ → List ℕ → ℕ → ℕ → OfferTurn
+record_does d slate kind bs i j =
+    cond (eqb kind 25) (record { desk = d; answer = placed_answer d slate bs i; at = j; more = true })
+    (cond (eqb kind 26) (told (commit_does d slate bs i) answer.Committed j)
+    (told (step_reply d kind bs i) answer.Nothing j))
 
--- a diary's, a board's or an order's: the slate stays
-abbrev pub stepped : List Row → Stepped → Turned
-stepped slate s = record { desk = s.desk; slate = slate; answer = told s.refusal answer.Nothing; more = s.more }
+-- the record that begins at index i, the input ending at index n
+unfoldable pub turn_reply : Desk → List Row → List ℕ → ℕ → ℕ → OfferTurn
+turn_reply d slate bs i n =
+    cond (leb n i) (ends d answer.Nothing i)
+    (cond (eqb (offer_len (byte bs i) bs (i + 1) n) 0) (ends d (answer.Refused 9) i)
+    (record_does d slate (byte bs i) bs (i + 1) (i + 1 + offer_len (byte bs i) bs (i + 1) n)))
 
--- only placing writes on the slate
-abbrev pub placed_turn : Desk → List Row → List ℕ → ℕ → Turned
-placed_turn d slate bs i = record {
-  desk = d;
-  slate = placed_slate d.board d.activity slate bs i;
-  answer = placed_answer d.board d.activity slate bs i;
-  more = true;
-}
-
--- the board in hand is the one with the bookings
-abbrev pub committed_turn : Desk → List Row → Entered → Turned
-committed_turn d slate e = record { desk = with_board d e.board; slate = slate; answer = told e.refusal answer.Committed; more = true }
-
--- nothing where the input ends between two records; an unknown kind or a cut body is refused 9, and the stream ends
-unfoldable pub turn_reply : Desk → List Row → List ℕ → Head → Turned
-turn_reply d slate bs h =
-    cond (is h.group End) (record { desk = d; slate = slate; answer = answer.Nothing; more = false })
-    (cond (steps h.group) (stepped slate (step_reply d bs h))
-    (cond (is h.group Place) (placed_turn d slate bs h.body)
-    (cond (is h.group Commit) (committed_turn d slate (committed d.board d.activity.category slate bs h.body))
-    (record { desk = d; slate = slate; answer = answer.Refused 9; more = false }))))
+-- the slate afterwards: only placing writes on it
+unfoldable pub slate_reply : Desk → List Row → List ℕ → ℕ → ℕ → List Row
+slate_reply d slate bs i n =
+    cond (leb n i) slate
+    (cond (eqb (offer_len (byte bs i) bs (i + 1) n) 0) slate
+    (cond (eqb (byte bs i) 25) (slate_after (placing d slate bs (i + 1)) slate) slate))
 
 -- how many entries of the slate an answer speaks of
 unfoldable pub shown : OfferAnswer → ℕ
@@ -86,3 +78,7 @@ shown (answer.Chosen t) = 0
 shown answer.None = 0
 shown answer.Committed = 0
 shown (answer.Refused n) = 0
+
+-- the slate after the record that begins at index i, and all entries that its answer speaks of stand on it
+abbrev pub SlateTurned : Desk → List Row → List ℕ → ℕ → ℕ → List Row → OfferAnswer → Type 0
+SlateTurned d slate bs i n after a = (after ≡ slate_reply d slate bs i n) × (shown a ≤ length after)

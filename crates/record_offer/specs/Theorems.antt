@@ -1,2 +1,3 @@
--- A refused record changes nothing.
+-- That a refused record changes nothing; small runs on the definitions.
 pub mod Meaning
+pub mod Runs

@@ -1,4 +1,3 @@
 -- What an answer of `offer` prints (docs/RECORDS.md), and a small run of it.
 pub mod Lines
-pub mod Stream
 pub mod Theorems

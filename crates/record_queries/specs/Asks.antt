@@ -1,5 +1,5 @@
 -- The asks of the runs beside the Rust, kinds 40 to 43.
-use Rattle.core.specs.Prelude.{◌≡◌, ℕ, ◌+◌, Bool, true, false, cond, not, List, [], ◌∷◌, ◌==◌, nat_lt}
+use Rattle.core.specs.Prelude.{ℕ, ◌+◌, ◌-◌, true, false, cond, not, List, [], ◌∷◌, ◌==◌, nat_le, nat_lt}
 use Rattle.calendar.specs.Limits.{longest_duration}
 use Rattle.calendar.specs.Refusals.{refused_or}
 use Rattle.record_bodies.specs.Numbers.{little}
@@ -14,15 +14,13 @@ use Rattle.board.specs.Places.{place_of}
 use Rattle.board.specs.Setups.{setup_ms}
 use Rattle.board.specs.Transport.{transport_to}
 use Rattle.board.specs.Valid.{valid}
-use Rattle.activity.specs.declared.Activity.{Activity}
-use Rattle.record_bodies.specs.declared.kinds.Group.TheVariants.{End, Query}
-use Rattle.record_bodies.specs.declared.Head.{Head}
-use Rattle.record_bodies.specs.Kinds.{is}
-use Rattle.record_desk.specs.Desk.{Desk, empty_desk}
-use Rattle.record_desk.specs.Steps.{Stepped, steps, step_reply}
+use Rattle.record_desk.specs.declared.Desk.{Desk}
+use Rattle.record_board.specs.declared.DeskStepped.{DeskStepped}
+use Rattle.record_queries.specs.declared.QueryTurn.{QueryTurn}
 use Rattle.record_queries.specs.declared.QueryAnswer.{QueryAnswer}
 use Rattle.record_queries.specs.declared.QueryAnswer.TheVariants.{Nothing as Silent, Lasts, Setup, Transport, Serves, No, Refused}
-use Rattle.record_bodies.specs.Bodies.{byte, Read, head_in}
+use Rattle.record_bodies.specs.Bodies.{byte, whole, body_len}
+use Rattle.record_board.specs.Records.{step_reply}
 
 -- 15 a board that breaks the rules; 5 a number that is not on it
 unfoldable pub place_refusal : Board → ℕ → ℕ
@@ -57,47 +55,39 @@ held_at bs i =
     byte bs i ∷ byte bs (i + 1) ∷ byte bs (i + 2) ∷ byte bs (i + 3)
     ∷ byte bs (i + 4) ∷ byte bs (i + 5) ∷ byte bs (i + 6) ∷ byte bs (i + 7) ∷ []
 
+-- 40 count, eight numbers (1 each); 41 number, last, category (1 each), own setup (8); 42 come from (2), to (1); 43 type (1), candidates
+-- (2), skills (8), number (1). 0 for another kind
+unfoldable pub ask_len : ℕ → ℕ
+ask_len kind = cond (kind == 40) 9 (cond (kind == 41) 11 (cond (kind == 42) 3 (cond (kind == 43) 12 0)))
+
 -- quantity and usage play no part in serving
 abbrev requirement_of : List ℕ → ℕ → ResourceRequirement
 requirement_of bs i = record { kind = byte bs i; candidates = little bs (i + 1) 2; skills = little bs (i + 3) 8; quantity = 1; usage = 1 }
 
--- 40 count, eight numbers (1 each); 41 number, last, category (1 each), own setup (8); 42 come from (2), to (1); 43 type (1), candidates
--- (2), skills (8), number (1)
-unfoldable pub ask_reply : Board → Activity → ℕ → List ℕ → ℕ → QueryAnswer
-ask_reply b a kind bs i =
-    cond (kind == 40) (duration_line (duration_reply a (held_at bs (i + 1)) (byte bs i)))
-    (cond (kind == 41) (setup_reply b (byte bs i) (byte bs (i + 1)) (byte bs (i + 2)) (little bs (i + 3) 8))
-    (cond (kind == 42) (transport_reply b (little bs i 2) (byte bs (i + 2)))
-    (serves_reply b (requirement_of bs i) (byte bs (i + 11)))))
+unfoldable pub ask_reply : Desk → ℕ → List ℕ → ℕ → QueryAnswer
+ask_reply d kind bs i =
+    cond (kind == 40) (duration_line (duration_reply d.activity (held_at bs (i + 1)) (byte bs i)))
+    (cond (kind == 41) (setup_reply d.board (byte bs i) (byte bs (i + 1)) (byte bs (i + 2)) (little bs (i + 3) 8))
+    (cond (kind == 42) (transport_reply d.board (little bs i 2) (byte bs (i + 2)))
+    (serves_reply d.board (requirement_of bs i) (byte bs (i + 11)))))
 
--- a refusal is told; other records answer nothing
-unfoldable pub told : ℕ → QueryAnswer
-told n = cond (n == 0) Silent (Refused n)
+-- the body of a record or of an ask: 0 for an unknown kind or a cut body
+unfoldable pub run_len : ℕ → List ℕ → ℕ → ℕ → ℕ
+run_len kind bs i n = cond (ask_len kind == 0) (body_len kind bs i n) (whole (n - i) (ask_len kind))
 
--- a record: what is in hand afterwards, what it answers, and whether to go on
-pub record Turned : Type 0 where
-  pub desk : Desk
-  pub answer : QueryAnswer
-  pub more : Bool
+-- a refusal is told, and 9 ends the stream
+unfoldable pub told : DeskStepped → ℕ → QueryTurn
+told s i =
+    cond (s.refusal == 0) (record { desk = s.desk; answer = Silent; at = i; more = true })
+    (record { desk = s.desk; answer = Refused s.refusal; at = i; more = not (s.refusal == 9) })
 
-abbrev pub stepped : Stepped → Turned
-stepped s = record { desk = s.desk; answer = told s.refusal; more = s.more }
+unfoldable pub ends : Desk → QueryAnswer → ℕ → QueryTurn
+ends d answer i = record { desk = d; answer = answer; at = i; more = false }
 
--- nothing where the input ends between two records; an unknown kind or a cut body is refused 9, and the stream ends
-unfoldable pub turn_reply : Desk → List ℕ → Head → Turned
-turn_reply d bs h =
-    cond (is h.group End) (record { desk = d; answer = Silent; more = false })
-    (cond (steps h.group) (stepped (step_reply d bs h))
-    (cond (is h.group Query) (record { desk = d; answer = ask_reply d.board d.activity h.kind bs h.body; more = true })
-    (record { desk = d; answer = Refused 9; more = false })))
-
--- after these records, the last one first
-unfoldable pub after : List Read → Turned
-after [] = record { desk = empty_desk; answer = Silent; more = true }
-after (r ∷ rs) = turn_reply (after rs).desk r.bytes (head_in r)
-
--- some records lead to what is in hand and to whether to go on
-pub record Reached (d : Desk) (more : Bool) : Type 0 where
-  pub records : List Read
-  pub hand : d ≡ (after records).desk
-  pub on : more ≡ (after records).more
+-- the record that begins at index i, the input ending at index n
+unfoldable pub turn_reply : Desk → List ℕ → ℕ → ℕ → QueryTurn
+turn_reply d bs i n =
+    cond (nat_le n i) (ends d Silent i)
+    (cond (run_len (byte bs i) bs (i + 1) n == 0) (ends d (Refused 9) i)
+    (cond (nat_lt (byte bs i) 40) (told (step_reply d (byte bs i) bs (i + 1)) (i + 1 + run_len (byte bs i) bs (i + 1) n))
+    (record { desk = d; answer = ask_reply d (byte bs i) bs (i + 1); at = i + 1 + run_len (byte bs i) bs (i + 1) n; more = true })))

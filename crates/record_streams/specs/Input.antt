@@ -1,5 +1,5 @@
 -- A buffer of input: what is unread, and what reading on does to it.
-use Rattle.std.specs.Prelude.{◌≡◌, true, false, List, ℕ, ◌+◌, ◌-◌, ◌≤◌, length, take, drop}
+use Rattle.std.specs.Prelude.{◌≡◌, true, false, List, ℕ, ◌+◌, ◌-◌, ◌≤◌, take, drop}
 use Rattle.record_streams.specs.declared.input.Input.{Input}
 
 -- the bytes that are unread
@@ -12,11 +12,10 @@ pub record Lies (s : Input) : Type 0 where
   pub high : s.len ≤ 65536
 
 -- r and after are s and its buffer after reading on: what was unread comes first of what is unread now; while the input lives a longest
--- record is there; once it has ended nothing changes; and the buffer is as long as before
+-- record is there; and once it has ended nothing changes
 pub record Supplied (s : Input) (before : List ℕ) (longest : ℕ) (r : Input) (after : List ℕ) : Type 0 where
   pub lies : Lies r
   pub long : r.live ≡ true → r.at + longest ≤ r.len
   pub more : s.len - s.at ≤ r.len - r.at
   pub first : take (s.len - s.at) (drop r.at after) ≡ unread s before
   pub over : s.live ≡ false → (r ≡ s) × (after ≡ before)
-  pub size : length after ≡ length before

@@ -36,7 +36,6 @@ fn refill(buf: &mut [u8; 65536], at: usize, len: usize) -> usize
     requires { (at ≤ len) × (len ≤ 65536) }
     ensures lower_bound { (len - at ≤ result) × (result ≤ 65536) }
     ensures buf_after { take (len - at) buf.new ≡ take (len - at) (drop at buf.old) }
-    ensures buf_len_unchanged { length buf.new ≡ length buf.old }
 {
     let rest = len - at;
     to_front(buf, at, rest);

@@ -1,3 +1,2 @@
--- Texts put one behind the other, and texts that wait.
+-- Texts put one behind the other.
 pub mod Putting
-pub mod Waiting

@@ -18,8 +18,3 @@ written buf i text = take i buf ++ text ++ drop (i + length text) buf
 pub record Put (before : List ℕ) (i : ℕ) (text after : List ℕ) (j : ℕ) : Type 0 where
   pub bytes : after ≡ written before i text
   pub end : j ≡ i + length text
-
--- of a text that is printed, the `used` bytes at the front of a buffer are the end, and wait; what stands before them has been written
-pub record Waits (text buf : List ℕ) (used : ℕ) : Type 0 where
-  pub gone : List ℕ
-  pub parts : text ≡ gone ++ take used buf

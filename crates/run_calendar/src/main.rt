@@ -4,15 +4,11 @@ ghost use Rattle.std.specs.Prelude.{◌≡◌, ◌+◌, ◌*◌, ◌^◌, ◌<�
 ghost use Rattle.calendar.specs.Limits.{last_asked, longest_span};
 ghost use Rattle.calendar_work.specs.Layout.{Edges};
 ghost use Rattle.calendar_joint.specs.Layout.{Ruled};
-ghost use Rattle.record_bodies.specs.declared.kinds.Group.TheVariants.{Diary, Calendar as CalendarGroup};
-ghost use Rattle.record_bodies.specs.Bodies.{Whole};
 
 use calendar::Calendar;
 use calendar::limits::{LAST_ASKED, LONGEST_SPAN};
 use calendar_joint::JointTime;
 use calendar_work::WorkEnd;
-use record_bodies::{Group, number};
-use record_streams::Input;
 
 // The calendar in hand, the list of calendars, and the list and the instant of the last layout.
 #[derive(Drop)]
@@ -37,6 +33,23 @@ fn fresh() -> Runs {
     }
 }
 
+fn wide(b: u8) -> u64 {
+    b as u64
+}
+
+// The number of n bytes from `at` on, little-endian.
+fn number(b: &[u8; 28], at: usize, n: usize) -> u64
+    requires { at + n ≤ 28 }
+{
+    let mut v: u64 = 0;
+    let mut k = n;
+    while 0 < k {
+        k -= 1;
+        v = (v << 8) | wide(b[at + k]);
+    }
+    v
+}
+
 fn refused(n: u64) {
     io::write_all(1, b"refused ");
     io::print_decimal(1, n);
@@ -45,7 +58,7 @@ fn refused(n: u64) {
 
 fn told(refusal: u8) {
     if refusal != 0 {
-        refused(refusal as u64);
+        refused(wide(refusal));
     }
 }
 
@@ -258,88 +271,108 @@ fn ask_measure(s: Runs, rounds: u64, from: u64, step: u64, work: u64) {
     io::write_all(1, b"\n");
 }
 
-// What a record of the kinds 2 and 3 does, its body beginning at `at`.
-fn on_diary(s: Runs, kind: u8, bytes: &[u8], at: usize) -> Runs
-    requires { Whole Diary kind bytes.now at × (2 ≤ kind) }
-{
-    let start = number(bytes, at, 8);
-    let end = number(bytes, at + 8, 8);
-    add(s, kind, start, end)
-}
-
-// What a record of the kinds 32 to 38 does, its body beginning at `at`. The arm of the others is kind 37, which empties the list.
-fn on_calendar(mut s: Runs, kind: u8, bytes: &[u8], at: usize) -> Runs
-    requires { Whole CalendarGroup kind bytes.now at }
+// How many bytes the body of a record has, 29 for an unknown kind.
+fn body_len(kind: u8) -> usize
+    ensures { result ≤ 29 }
 {
     match kind {
-        32 => {
-            ask_fits(s.hand, number(bytes, at, 8), number(bytes, at + 8, 8));
-        }
-        33 => {
-            ask_working(s.hand, number(bytes, at, 8));
-        }
-        34 => {
-            s = join(s);
-        }
-        35 => {
-            s = lay(s, number(bytes, at, 8));
-        }
-        36 => {
-            ask_end(s, number(bytes, at, 8), number(bytes, at + 8, 8));
-        }
-        38 => {
-            ask_measure(
-                s,
-                number(bytes, at, 4),
-                number(bytes, at + 4, 8),
-                number(bytes, at + 12, 8),
-                number(bytes, at + 20, 8),
-            );
-        }
-        _ => {
-            s.count = 0;
-        }
+        2 | 3 | 32 | 36 => 16,
+        33 | 35 => 8,
+        34 | 37 => 0,
+        38 => 28,
+        _ => 29,
     }
-    s
 }
 
-// Nothing says that the input ends, so the turns count down from a number that no run uses up. A record has at most 29 bytes.
+// What one record of a known kind does.
+fn step(mut s: Runs, kind: u8, body: &[u8; 28]) -> Runs {
+    let first = number(body, 0, 8);
+    let second = number(body, 8, 8);
+    match kind {
+        2 | 3 => add(s, kind, first, second),
+        32 => {
+            ask_fits(s.hand, first, second);
+            s
+        }
+        33 => {
+            ask_working(s.hand, first);
+            s
+        }
+        34 => join(s),
+        35 => lay(s, first),
+        36 => {
+            ask_end(s, first, second);
+            s
+        }
+        37 => {
+            s.count = 0;
+            s
+        }
+        _ => {
+            ask_measure(
+                s,
+                number(body, 0, 4),
+                number(body, 4, 8),
+                number(body, 12, 8),
+                number(body, 20, 8),
+            );
+            s
+        }
+    }
+}
+
+// One record read and done, and whether to go on.
+#[derive(Drop)]
+struct Done {
+    more: bool,
+    runs: Runs,
+}
+
+fn record(s: Runs) -> Done {
+    let mut kind = [0u8; 1];
+    if io::read_full(0, &mut kind) == 0 {
+        return Done {
+            more: false,
+            runs: s,
+        };
+    }
+    let k = kind[0];
+    let n = body_len(k);
+    if n > 28 {
+        refused(9);
+        return Done {
+            more: false,
+            runs: s,
+        };
+    }
+    let mut body = [0u8; 28];
+    if io::read_full(0, &mut body[..n]) < n {
+        refused(9);
+        return Done {
+            more: false,
+            runs: s,
+        };
+    }
+    let next = step(s, k, &body);
+    Done {
+        more: true,
+        runs: next,
+    }
+}
+
+// Nothing says that the input ends, so the turns count down from a number that no run uses up.
 fn main() {
-    let mut buf = io::large_buffer();
-    let mut runs = fresh();
-    let mut s = Input {
-        at: 0,
-        len: 0,
-        live: true,
-    };
+    let mut s = fresh();
     let mut turns = u64::MAX;
     let mut more = true;
-    while more && turns > 0 {
-        turns -= 1;
-        s = record_streams::supply(s, &mut buf, 29);
-        let h = record_bodies::head_of(&buf, s.at, s.len);
-        let group = h.group;
-        match group {
-            Group::Diary => match h.kind {
-                2 | 3 => {
-                    runs = on_diary(runs, h.kind, &buf, h.body);
-                }
-                _ => {
-                    refused(9);
-                    more = false;
-                }
-            },
-            Group::Calendar => {
-                runs = on_calendar(runs, h.kind, &buf, h.body);
-            }
-            Group::End => {
-                more = false;
-            }
-            _ => {
-                refused(9);
-                more = false;
-            }
+    while more {
+        if turns == 0 {
+            return;
         }
-        s.at = h.next;
+        turns -= 1;
+        let t = record(s);
+        more = t.more;
+        let next = t.runs;
+        s = next;
     }
 }

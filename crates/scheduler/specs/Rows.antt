@@ -1,14 +1,10 @@
 -- A row of a slate: how an entry stands on it, and what is read of it. Which word is which, and how many there are, is said here alone.
-use Rattle.std.specs.Prelude.{ℕ, Bool, not, cond, List, [], ◌∷◌, get_or, replicate, eqb}
+use Rattle.std.specs.Prelude.{ℕ, Bool, not, cond, List, [], ◌∷◌, get_or, eqb}
 use Rattle.scheduler.specs.declared.Entry.{Entry}
 
 -- the words of a row
 abbrev pub Row : Type 0
 Row = List ℕ
-
--- a row on which nothing stands
-abbrev pub blank_row : Row
-blank_row = replicate 4 0
 
 -- an entry on the slate: number, setup, units, companion 0 or 1
 unfoldable pub row_of : Entry → Row

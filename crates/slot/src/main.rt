@@ -1,19 +1,24 @@
 // The program `slot` (01): reads records from standard input and writes what they print. It only reads and writes; what a record
 // does is in `record_diary`.
 ghost use Rattle.std.specs.Prelude.{◌+◌, ◌≤◌};
-ghost use Rattle.record_texts.specs.Text.{Put};
-ghost use Rattle.record_diary_text.specs.Lines.{line_of, text_of};
 
-use record_bodies::Group;
+use record_diary::DiaryTurn;
 use record_diary_text::Line;
 use record_streams::Input;
 use timeline::ResourceTimeline;
 
+// The next record.
+fn next(t: ResourceTimeline, buf: &[u8; 65536], at: usize, len: usize) -> DiaryTurn
+    requires { (at ≤ len) × (len ≤ 65536) }
+    ensures { result.at ≤ len }
+{
+    record_diary::record(t, buf, at, len)
+}
+
 // Puts a line behind what waits.
 fn print(line: Line, out: &mut [u8; 65536], used: usize) -> usize
     requires { used + 46 ≤ 65536 }
-    ensures put { Put out.old used (text_of (line_of line)) out.new result }
-    ensures upper_bound { result ≤ 65536 }
+    ensures { result ≤ 65536 }
 {
     record_diary_text::text(line, out, used)
 }
@@ -22,7 +27,7 @@ fn print(line: Line, out: &mut [u8; 65536], used: usize) -> usize
 fn main() {
     let mut buf = io::large_buffer();
     let mut out = io::large_buffer();
-    let mut timeline = ResourceTimeline::new(1);
+    let mut t = ResourceTimeline::new(1);
     let mut s = Input {
         at: 0,
         len: 0,
@@ -34,28 +39,12 @@ fn main() {
     while more && turns > 0 {
         turns -= 1;
         s = record_streams::supply(s, &mut buf, 21);
-        let h = record_bodies::head_of(&buf, s.at, s.len);
-        let group = h.group;
-        let mut line = Line::Nothing;
-        match group {
-            Group::Diary => {
-                let r = record_diary::on_diary(timeline, h.kind, &buf, h.body);
-                let t = r.timeline;
-                timeline = t;
-                line = record_diary::told(r.refusal);
-            }
-            Group::Ask => {
-                line = record_diary::line_of(record_diary::ask(timeline, h.kind, &buf, h.body));
-            }
-            Group::End => {
-                more = false;
-            }
-            _ => {
-                line = Line::Refused(9);
-                more = false;
-            }
-        }
-        s.at = h.next;
+        let r = next(t, &buf, s.at, s.len);
+        let diary = r.timeline;
+        let line = r.line;
+        t = diary;
+        s.at = r.at;
+        more = r.more;
         used = record_streams::relieve(&out, used, 46);
         used = print(line, &mut out, used);
     }

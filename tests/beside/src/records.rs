@@ -4,8 +4,8 @@
 
 use std::fmt;
 
-/// A record: its kind and its numbers in order. The count of a counted kind is not among them: it
-/// is how many there are behind the first ones.
+/// A record: its kind and its numbers in order. Of kind 16 the numbers are number, type, skills
+/// and then the companions; their count is how many there are.
 #[derive(Clone, Debug, PartialEq)]
 pub struct Record {
     pub kind: u8,
@@ -41,7 +41,7 @@ const B2: Form = Bytes(2);
 const B4: Form = Bytes(4);
 const B8: Form = Bytes(8);
 
-/// Kind, readable name, numbers; docs/kinds.txt has the same. Those of COUNTED have more behind.
+/// Kind, readable name, numbers. Kind 16 has a count and companions behind these.
 pub const KINDS: [(u8, &str, &[Form]); 28] = [
     (1, "diary", &[B4]),                   // capacity
     (2, "window", &[B8, B8]),              // start, end
@@ -49,7 +49,7 @@ pub const KINDS: [(u8, &str, &[Form]); 28] = [
     (4, "booking", &[B8, B8, B4]),         // start, end, units
     (5, "fit", &[B8, B8, B4]),             // from, span, units
     (6, "resumable", &[B8, B8, B4]),       // from, span, units
-    (16, "resource", &[B1, B1, B8]),       // number, type, skills
+    (16, "resource", &[B1, B1, B8]),       // number, type, skills, companions
     (17, "matrix", &[B1, Signed, Signed]), // number, default, initial
     (18, "pair", &[B1, B1, B1, Signed]),   // number, last, this, ms
     (19, "first", &[B1, B1, Signed]),      // number, category, ms
@@ -75,11 +75,6 @@ pub const KINDS: [(u8, &str, &[Form]); 28] = [
     (43, "serves", &[B1, B2, B8, B1]),          // type, candidates, skills, number
 ];
 
-/// The kinds with a count, one byte, behind their numbers, and what then stands there as often.
-const COUNTED: [(u8, &[Form]); 1] = [
-    (16, &[B1]), // companion
-];
-
 /// Which kinds a program knows; every other kind is unknown to it.
 #[derive(Clone, Copy, PartialEq, Debug)]
 pub enum Known {
@@ -93,10 +88,12 @@ pub enum Known {
 impl Known {
     pub fn knows(self, kind: u8) -> bool {
         match self {
-            Known::Slot => matches!(kind, 1..=6),
-            Known::Offer => matches!(kind, 1..=4 | 16..=26),
-            Known::Calendar => matches!(kind, 2 | 3 | 32..=38),
-            Known::Board => matches!(kind, 1..=4 | 16..=24 | 40..=43),
+            Known::Slot => kind <= 6,
+            Known::Offer => kind <= 4 || (16..=26).contains(&kind),
+            Known::Calendar => kind == 2 || kind == 3 || (32..=38).contains(&kind),
+            Known::Board => {
+                kind <= 4 || (16..=24).contains(&kind) || (40..=43).contains(&kind)
+            }
             Known::All => true,
         }
     }
@@ -119,11 +116,6 @@ fn form(kind: u8) -> Option<(&'static str, &'static [Form])> {
     KINDS.iter().find(|k| k.0 == kind).map(|k| (k.1, k.2))
 }
 
-/// What a kind's count counts; nothing where it has none.
-fn each(kind: u8) -> &'static [Form] {
-    COUNTED.iter().find(|k| k.0 == kind).map_or(&[], |k| k.1)
-}
-
 impl Record {
     pub fn new(kind: u8, numbers: &[u64]) -> Self {
         Self { kind, numbers: numbers.to_vec() }
@@ -131,22 +123,20 @@ impl Record {
 
     /// The form of each number.
     pub fn forms(&self) -> Vec<Form> {
-        let (_, first) = form(self.kind).expect("a known kind");
-        let all = first.iter().chain(each(self.kind).iter().cycle());
-        all.take(self.numbers.len()).copied().collect()
+        let mut forms = form(self.kind).expect("a known kind").1.to_vec();
+        forms.resize(self.numbers.len(), B1);
+        forms
     }
 
     pub fn encode(&self, out: &mut Vec<u8>) {
-        let first = form(self.kind).expect("a known kind").1.len();
-        let each = each(self.kind).len();
         out.push(self.kind);
         for (k, (number, form)) in self.numbers.iter().zip(self.forms()).enumerate() {
-            if k == first {
-                out.push(((self.numbers.len() - first) / each) as u8);
+            if self.kind == 16 && k == 3 {
+                out.push((self.numbers.len() - 3) as u8);
             }
             out.extend(&number.to_le_bytes()[..form.size()]);
         }
-        if each > 0 && self.numbers.len() == first {
+        if self.kind == 16 && self.numbers.len() == 3 {
             out.push(0);
         }
     }
@@ -178,7 +168,10 @@ impl<'a> Reader<'a> {
         Some(u64::from_le_bytes(eight))
     }
 
-    fn numbers(&mut self, forms: &[Form], numbers: &mut Vec<u64>) -> Option<()> {
+    fn record(&mut self) -> Option<Record> {
+        let kind = self.number(1)? as u8;
+        let (_, forms) = form(kind).filter(|_| self.known.knows(kind))?;
+        let mut numbers = Vec::with_capacity(forms.len());
         for &form in forms {
             let number = self.number(form.size())?;
             if form == Flag && number > 1 {
@@ -186,18 +179,9 @@ impl<'a> Reader<'a> {
             }
             numbers.push(number);
         }
-        Some(())
-    }
-
-    fn record(&mut self) -> Option<Record> {
-        let kind = self.number(1)? as u8;
-        let (_, forms) = form(kind).filter(|_| self.known.knows(kind))?;
-        let mut numbers = Vec::with_capacity(forms.len());
-        self.numbers(forms, &mut numbers)?;
-        let each = each(kind);
-        if !each.is_empty() {
+        if kind == 16 {
             for _ in 0..self.number(1)? {
-                self.numbers(each, &mut numbers)?;
+                numbers.push(self.number(1)?);
             }
         }
         Some(Record { kind, numbers })
@@ -237,23 +221,20 @@ impl fmt::Display for Record {
 /// The record of one readable line, as `Display` writes it.
 pub fn parse(line: &str) -> Record {
     let bad = || -> ! { panic!("not a record: {line}") };
-    let words: Vec<&str> = line.split_whitespace().collect();
-    let (name, words) = words.split_first().unwrap_or_else(|| bad());
-    let &(kind, _, forms) = KINDS.iter().find(|k| k.1 == *name).unwrap_or_else(|| bad());
-    let each = each(kind);
-    let more = words.len().checked_sub(forms.len()).unwrap_or_else(|| bad());
-    if more > 0 && (each.is_empty() || more % each.len() > 0) {
-        bad();
-    }
+    let mut words = line.split_whitespace();
+    let name = words.next().unwrap_or_else(|| bad());
+    let &(kind, _, forms) = KINDS.iter().find(|k| k.1 == name).unwrap_or_else(|| bad());
     let numbers: Vec<u64> = words
-        .iter()
-        .zip(forms.iter().chain(each.iter().cycle()))
-        .map(|(word, form)| match form {
+        .enumerate()
+        .map(|(k, word)| match forms.get(k).copied().unwrap_or(B1) {
             Signed => word.parse::<i64>().map(|x| x as u64).unwrap_or_else(|_| bad()),
             Double => word.parse::<f64>().map(f64::to_bits).unwrap_or_else(|_| bad()),
             _ => word.parse().unwrap_or_else(|_| bad()),
         })
         .collect();
+    if numbers.len() < forms.len() || (numbers.len() > forms.len() && kind != 16) {
+        bad();
+    }
     Record { kind, numbers }
 }
 

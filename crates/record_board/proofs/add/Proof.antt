@@ -6,9 +6,12 @@ use Rattle.record_board.proofs.Doing.{add-refused, add-taken, does-add}
 use Rattle.record_board.proofs.add.Statement.{statement}
 use Rattle.record_board.proofs.add.Tie as tie
 
--- the place that the proof looks back to
+-- the places that the proof looks back to, each from the next one
 abbrev after-number : tie.After-add-resource → tie.After-number
 after-number c = c.before.before.before.before
+
+abbrev after-add-resource : tie.After-new → tie.After-add-resource
+after-add-resource c = c.before.before.before.before
 
 add-number : tie.Need-overflow-add-number
 add-number c = search rules
@@ -48,20 +51,19 @@ add-resource-requires c κs = search rules
 
 returns : tie.Need-returns
 returns c =
-    let r = c.before.before.before in
-    let n = after-number r in
+    let n = after-number c.before.before in
     let a = n.before.before.args in
-    does-add a.board a.timeline a.bytes.now a.at a.count (a.at + 11 + a.count - (a.at + 11)) n.number.result r.add-resource.result _ (omega arith) n.number.ensures.0 r.add-resource.ensures (add-refused _ _ (λ e. omega arith))
+    does-add a.desk a.bytes.now a.at a.count (a.at + 11 + a.count - (a.at + 11)) n.number.result c.before.before.add-resource.result _ (omega arith) n.number.ensures.0 c.before.before.add-resource.ensures (add-refused _ _ (λ e. omega arith))
 
 new-requires : tie.Need-new-requires
 new-requires c κs = search rules
 
 returns-2 : tie.Need-returns-2
 returns-2 c =
-    let r = c.before.before.before.before in
-    let n = after-number r in
+    let ar = after-add-resource c in
+    let n = after-number ar in
     let a = n.before.before.args in
-    does-add a.board a.timeline a.bytes.now a.at a.count (a.at + 11 + a.count - (a.at + 11)) n.number.result r.add-resource.result _ (omega arith) n.number.ensures.0 r.add-resource.ensures (add-taken _ _ _ (omega arith) c.new.ensures.0)
+    does-add a.desk a.bytes.now a.at a.count (a.at + 11 + a.count - (a.at + 11)) n.number.result ar.add-resource.result _ (omega arith) n.number.ensures.0 ar.add-resource.ensures (add-taken _ _ _ (omega arith) c.new.ensures.0)
 
 pub add_spec : {M : Type 1} → statement M
 add_spec =

@@ -1,7 +1,8 @@
 -- `record_board::entry` meets its contract: one law for each kind.
 use borrow.Author.Rules.{rules}
 use native.Mathlib.Omega.{arith}
-use Rattle.record_bodies.specs.Laws.Heads.{board-room, matrix-room, pair-room}
+use Rattle.record_bodies.specs.Bodies.{fixed_len}
+use Rattle.record_bodies.proofs.Lengths.{fixed-at, nineteen-twenty, ten}
 use Rattle.record_board.proofs.Bits.{back}
 use Rattle.record_board.proofs.Doing.{enters-matrix, enters-pair, enters-first, enters-transport}
 use Rattle.record_board.proofs.entry.Statement.{statement}
@@ -27,7 +28,7 @@ abbrev after-number2 : tie.After-set-matrix → tie.After-number2
 after-number2 c = c.before.before
 
 shared-slice-read-first : tie.Need-shared-slice-read-first
-shared-slice-read-first c = omega (arith, board-room c.before.before.requires.0)
+shared-slice-read-first c = omega (arith, ten c.before.before.args.kind c.before.before.requires.0 c.before.before.requires.1, c.before.before.requires.2)
 
 add-second : tie.Need-overflow-add-second
 add-second c = search rules
@@ -35,13 +36,14 @@ add-second c = search rules
 shared-slice-read-second : tie.Need-shared-slice-read-second
 shared-slice-read-second c =
     let s = start c in
-    omega (arith, board-room s.pre.0)
+    omega (arith, ten s.args.kind s.pre.0 s.pre.1, s.pre.2)
 
 add-number : tie.Need-overflow-add-number
 add-number c = search rules
 
 number-requires : tie.Need-number-requires
-number-requires c κs = (omega arith, omega (arith, matrix-room (start-of-then1 c).requires.0 (omega arith)))
+unfolding fixed_len
+number-requires c κs = (omega arith, omega (arith, fixed-at (start-of-then1 c).args.kind 17 (omega arith), (start-of-then1 c).requires.2))
 
 signed-requires : tie.Need-signed-requires
 signed-requires c κs = search rules
@@ -50,9 +52,10 @@ add-number-2 : tie.Need-overflow-add-number-2
 add-number-2 c = search rules
 
 number-requires-2 : tie.Need-number-requires-2
+unfolding fixed_len
 number-requires-2 c κs =
     let s1 = start-of-then1 c.before.before in
-    (omega arith, omega (arith, matrix-room s1.pre.0 (omega arith)))
+    (omega arith, omega (arith, fixed-at s1.args.kind 17 (omega arith), s1.pre.2))
 
 signed-requires-2 : tie.Need-signed-requires-2
 signed-requires-2 c κs = search rules
@@ -69,9 +72,10 @@ add-number-3 : tie.Need-overflow-add-number-3
 add-number-3 c = search rules
 
 number-requires-3 : tie.Need-number-requires-3
+unfolding fixed_len
 number-requires-3 c κs =
     let s = start (else1 c).before in
-    (omega arith, omega (arith, pair-room s.pre.0 (omega arith)))
+    (omega arith, omega (arith, fixed-at s.args.kind 18 (omega arith), s.pre.2))
 
 signed-requires-3 : tie.Need-signed-requires-3
 signed-requires-3 c κs = search rules
@@ -80,9 +84,10 @@ add-set-transition : tie.Need-overflow-add-set-transition
 add-set-transition c = search rules
 
 shared-slice-read-set-transition : tie.Need-shared-slice-read-set-transition
+unfolding fixed_len
 shared-slice-read-set-transition c =
     let s = start (else1 (after-number3 c).before).before in
-    omega (arith, pair-room s.pre.0 (omega arith))
+    omega (arith, fixed-at s.args.kind 18 (omega arith), s.pre.2)
 
 set-transition-requires : tie.Need-set-transition-requires
 set-transition-requires c κs = search rules
@@ -98,7 +103,7 @@ add-number-4 c = search rules
 number-requires-4 : tie.Need-number-requires-4
 number-requires-4 c κs =
     let s = start c.before.before in
-    (omega arith, omega (arith, board-room s.pre.0))
+    (omega arith, omega (arith, nineteen-twenty s.args.kind (omega arith) (omega arith), s.pre.2))
 
 signed-requires-4 : tie.Need-signed-requires-4
 signed-requires-4 c κs = search rules

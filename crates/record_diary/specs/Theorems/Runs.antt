@@ -19,9 +19,8 @@ use Rattle.calendar.specs.Refusals.{refused_or}
 use Rattle.record_texts.specs.Text.{decimal_to}
 use Rattle.record_bodies.specs.Numbers.{little}
 use Rattle.record_diary_text.specs.Lines.{text_of}
-use Rattle.record_bodies.specs.Kinds.{kinds, body_in, body_of}
-use Rattle.record_bodies.specs.Bodies.{counted_len, len_of, stop, head_at, head_of}
-use Rattle.record_diary.specs.Records.{diary_reply, ask_reply, refusal_line, booked, turn_reply}
+use Rattle.record_bodies.specs.Bodies.{diary_len}
+use Rattle.record_diary.specs.Records.{books, asks, record_does, turn_reply}
 use Rattle.record_diary.specs.Stream.{go_on, stream_from, slot}
 
 -- a number below 256 in n + 1 bytes
@@ -35,6 +34,6 @@ pub example : slot
     ≡ 102 ∷ 105 ∷ 116 ∷ 32 ∷ 53 ∷ 48 ∷ 32 ∷ 49 ∷ 48 ∷ 48 ∷ 10 ∷ 102 ∷ 105 ∷ 116 ∷ 32 ∷ 50 ∷ 48 ∷ 48 ∷ 32 ∷ 50 ∷ 53 ∷ 49 ∷ 10 ∷ []
 unfolding least_from spans_from any holds meets calendar.cell_right every_from calendar.spans_right calendar.valid open_for fits latest last_change
     empty bookings_to total latest_end before cell_right cell_empty contents_right valid overlaps on_at tally load free fits_at last_event earliest_fit capacity_of
-    insert_by_start latest_ends diary book_refusal taken book_reply unbroken ask_refusal refused_or asked little decimal_to text_of kinds body_in body_of
-    counted_len len_of stop head_at head_of diary_reply ask_reply refusal_line booked turn_reply go_on stream_from slot greatest_of
+    insert_by_start latest_ends diary book_refusal taken book_reply unbroken ask_refusal refused_or asked little decimal_to text_of diary_len books
+    asks record_does turn_reply go_on stream_from slot greatest_of
 example = refl

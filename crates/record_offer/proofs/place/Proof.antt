@@ -1,13 +1,11 @@
 -- `record_offer::place` meets its contract.
 use borrow.Author.Rules.{rules}
-use native.Mathlib.Omega.{arith}
-use Rattle.record_bodies.specs.Laws.Heads.{place-room}
 use Rattle.record_offer.proofs.Offering.{placed-answer, placed-slate}
 use Rattle.record_offer.proofs.place.Statement.{statement}
 use Rattle.record_offer.proofs.place.Tie as tie
 
 number-requires : tie.Need-number-requires
-number-requires c κs = (omega arith, omega (arith, place-room c.before.requires))
+number-requires c κs = search rules
 
 place-activity-requires : tie.Need-place-activity-requires
 place-activity-requires c κs = search rules
@@ -19,10 +17,7 @@ same_length : tie.Need-same-length
 same_length c = search rules
 
 returns : tie.Need-returns
-returns c =
-    let n = c.before.before.before.before.number.ensures.0 in
-    let p = c.before.before.place-activity in
-    (placed-answer _ _ _ _ _ _ n _ _ p.ensures.0 c.answer-of.ensures, placed-slate _ _ _ _ _ _ n _ p.ensures.1)
+returns c = let n = c.before.before.before.before.number.ensures.0 in (placed-answer _ _ _ _ _ n _ _ c.before.before.place-activity.ensures.0 c.answer-of.ensures, placed-slate _ _ _ _ _ n _ c.before.before.place-activity.ensures.1)
 
 pub place-spec : {M : Type 1} → statement M
 place-spec =

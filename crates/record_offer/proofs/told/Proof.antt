@@ -5,10 +5,10 @@ use Rattle.record_offer.proofs.told.Statement.{statement}
 use Rattle.record_offer.proofs.told.Tie as tie
 
 returns : tie.Need-returns
-returns c = told-taken _ _ (omega arith)
+returns c = told-taken _ _ _ (omega arith)
 
 returns-2 : tie.Need-returns-2
-returns-2 c = told-refused _ _ (λ e. omega arith)
+returns-2 c = told-refused _ _ _ (λ e. omega arith)
 
 pub told-spec : {M : Type 1} → statement M
 told-spec = tie.close (tie.spec returns returns-2)

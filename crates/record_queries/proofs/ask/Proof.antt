@@ -2,9 +2,7 @@
 use borrow.Author.Rules.{rules}
 use Rattle.core.specs.Prelude.{◌+◌, ◌≤◌, length}
 use native.Mathlib.Omega.{arith}
-use Rattle.record_bodies.specs.Laws.Kinds.{query-kinds}
-use Rattle.record_bodies.specs.Laws.Heads as room
-use Rattle.record_queries.proofs.Asking.{asks-lasting, asks-setup, asks-journey, asks-serving}
+use Rattle.record_queries.proofs.Asking.{asks-lasting, asks-setup, asks-journey, asks-serving, ask-40, ask-41, ask-42, ask-43}
 use Rattle.record_queries.proofs.ask.Statement.{statement}
 use Rattle.record_queries.proofs.ask.Tie as tie
 
@@ -32,18 +30,16 @@ after-number4 c = c.before.before
 
 -- the bytes that each kind has
 lasting-room : (c : tie.Then1) → (of-lasting c).args.at + 9 ≤ length (of-lasting c).args.bytes.now
-lasting-room c = room.lasting-room (of-lasting c).requires (omega arith)
+lasting-room c = omega (arith, ask-40 (of-lasting c).args.kind (omega arith), (of-lasting c).requires.2)
 
 setup-room : (c : tie.Then2) → (start c.before).args.at + 11 ≤ length (start c.before).args.bytes.now
-setup-room c = room.setup-room (start c.before).requires (omega arith)
+setup-room c = omega (arith, ask-41 (start c.before).args.kind (omega arith), (start c.before).requires.2)
 
 transport-room : (c : tie.Then3) → (of-transport c).args.at + 3 ≤ length (of-transport c).args.bytes.now
-transport-room c = room.journey-room (of-transport c).requires (omega arith)
+transport-room c = omega (arith, ask-42 (of-transport c).args.kind (omega arith), (of-transport c).requires.2)
 
 serving-room : (c : tie.Else3) → (start c.before.before).args.at + 12 ≤ length (start c.before.before).args.bytes.now
-serving-room c =
-    let s = start c.before.before in
-    room.serving-room s.pre (omega (arith, query-kinds s.args.kind s.pre.group))
+serving-room c = omega (arith, ask-43 (start c.before.before).args.kind (omega arith), (start c.before.before).requires.2)
 
 add-held-at : tie.Need-overflow-add-held-at
 add-held-at c = search rules
@@ -64,7 +60,7 @@ lasting-requires : tie.Need-lasting-requires
 lasting-requires c κs = search rules
 
 returns : tie.Need-returns
-returns c = asks-lasting _ _ _ _ _ _ _ _ _ (omega arith) (after-wide c).wide.ensures.0 (after-wide c).before.before.held_at.ensures c.before.duration-on.ensures c.lasting.ensures
+returns c = asks-lasting _ _ _ _ _ _ _ _ (omega arith) (after-wide c).wide.ensures.0 (after-wide c).before.before.held_at.ensures c.before.duration-on.ensures c.lasting.ensures
 
 add-number : tie.Need-overflow-add-number
 add-number c = search rules
@@ -91,7 +87,7 @@ setup-requires : tie.Need-setup-requires
 setup-requires c κs = search rules
 
 returns-2 : tie.Need-returns-2
-returns-2 c = asks-setup _ _ _ _ _ _ _ (omega arith) (after-number c.before.before).number.ensures.0 c.setup.ensures
+returns-2 c = asks-setup _ _ _ _ _ _ (omega arith) (after-number c.before.before).number.ensures.0 c.setup.ensures
 
 number-requires-2 : tie.Need-number-requires-2
 number-requires-2 c κs = (omega arith, omega (arith, transport-room c))
@@ -109,7 +105,7 @@ transport-requires : tie.Need-transport-requires
 transport-requires c κs = search rules
 
 returns-3 : tie.Need-returns-3
-returns-3 c = asks-journey _ _ _ _ _ _ _ (omega arith) c.before.before.number2.ensures.0 c.transport.ensures
+returns-3 c = asks-journey _ _ _ _ _ _ (omega arith) c.before.before.number2.ensures.0 c.transport.ensures
 
 add-number-2 : tie.Need-overflow-add-number-2
 add-number-2 c = search rules
@@ -139,7 +135,7 @@ serves-requires : tie.Need-serves-requires
 serves-requires c κs = search rules
 
 returns-4 : tie.Need-returns-4
-returns-4 c = asks-serving _ _ _ _ _ _ _ _ (λ e. omega arith) (λ e. omega arith) (λ e. omega arith) (after-number4 c.before).before.number3.ensures.0 (after-number4 c.before).number4.ensures.0 c.serves.ensures
+returns-4 c = asks-serving _ _ _ _ _ _ _ (λ e. omega arith) (λ e. omega arith) (λ e. omega arith) (after-number4 c.before).before.number3.ensures.0 (after-number4 c.before).number4.ensures.0 c.serves.ensures
 
 pub ask-spec : {M : Type 1} → statement M
 ask-spec =

@@ -14,9 +14,7 @@ read-behind-requires : tie.Need-read-behind-requires
 read-behind-requires c κs = search rules
 
 returns : tie.Need-returns
-returns c =
-    let t = c.before.before.to_front in
-    ((search rules, search rules), (c.read_behind.ensures.1 ∙ t.ensures, c.read_behind.auto.0 ∙ t.auto.0))
+returns c = ((search rules, search rules), c.read_behind.ensures.1 ∙ c.before.before.to_front.ensures)
 
 pub refill-spec : {M : Type 1} → statement M
 refill-spec = tie.close (tie.spec sub-rest to-front-requires read-behind-requires returns)

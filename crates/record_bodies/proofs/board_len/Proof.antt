@@ -1,0 +1,27 @@
+-- `record_bodies::board_len` meets its contract: by its kind, the length is the definition's.
+use native.Mathlib.Omega.{arith}
+use mathlib.Core.Path.{sym}
+use Rattle.record_bodies.specs.Bodies.{fixed_len}
+use Rattle.record_bodies.proofs.Lengths.{fixed-at, nineteen-twenty, unknown}
+use Rattle.record_bodies.proofs.board_len.Statement.{statement}
+use Rattle.record_bodies.proofs.board_len.Tie as tie
+
+returns : tie.Need-returns
+unfolding fixed_len
+returns c = sym (fixed-at c.before.args.kind 17 (omega arith))
+
+returns-2 : tie.Need-returns-2
+unfolding fixed_len
+returns-2 c = sym (fixed-at c.before.args.kind 18 (omega arith))
+
+returns-3 : tie.Need-returns-3
+returns-3 c = sym (nineteen-twenty _ (omega arith) (omega arith))
+
+returns-4 : tie.Need-returns-4
+returns-4 c = sym (unknown _ (omega arith) (λ e. omega arith) (λ e. omega arith) (λ e. omega arith) (λ e. omega arith) (λ e. omega arith) (λ e. omega arith) (λ e. omega arith) (λ e. omega arith))
+
+returns-5 : tie.Need-returns-5
+returns-5 c = sym (unknown _ (omega arith) (λ e. omega arith) (λ e. omega arith) (λ e. omega arith) (λ e. omega arith) (λ e. omega arith) (λ e. omega arith) (λ e. omega arith) (λ e. omega arith))
+
+pub board-len-spec : {M : Type 1} → statement M
+board-len-spec = tie.close (tie.spec returns returns-2 returns-3 returns-4 returns-5)

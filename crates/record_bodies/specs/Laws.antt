@@ -1,3 +1,0 @@
--- Lemmas on the table of kinds and on the head of a record.
-pub mod Kinds
-pub mod Heads

@@ -1,2 +1,0 @@
--- What is in hand after a record, by its group.
-pub mod Stepping

@@ -1,2 +1,0 @@
--- A refused record changes nothing.
-pub mod Meaning

@@ -1,2 +1,0 @@
--- A turn, by the group of the record.
-pub mod Turning

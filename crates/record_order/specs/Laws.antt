@@ -1,2 +1,0 @@
--- A part of an order written into it.
-pub mod Writing

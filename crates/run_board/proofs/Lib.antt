@@ -1,2 +1,0 @@
--- Laws for the proof of the loop.
-pub mod Turning

@@ -1,2 +1,0 @@
--- Laws for the proof of what a record does.
-pub mod Room
