@@ -6,7 +6,7 @@ pub mod core;
 pub mod order;
 mod timing;
 
-#[derive(Drop)]
+#[derive(Clone, Copy)]
 pub struct ActivityDuration {
     pub setup: u64,
     pub process: u64,
@@ -14,7 +14,7 @@ pub struct ActivityDuration {
 }
 
 // How an order's time changes on one resource.
-#[derive(Drop)]
+#[derive(Clone, Copy)]
 pub enum ResourceTiming {
     Nothing,
     Speed(f64),
@@ -22,13 +22,13 @@ pub enum ResourceTiming {
 }
 
 // A timing in a struct of its own, so that an array can hold it.
-#[derive(Drop)]
+#[derive(Clone, Copy)]
 pub struct Timed {
     pub timing: ResourceTiming,
 }
 
 // Resources needed: those of the 16-bit candidate set, or those of the type where it is empty, with every skill.
-#[derive(Drop)]
+#[derive(Clone, Copy)]
 pub struct ResourceRequirement {
     pub kind: u8,
     pub candidates: u16,
@@ -38,7 +38,7 @@ pub struct ResourceRequirement {
 }
 
 // The earliest start of the order's own, where it has one.
-#[derive(Drop)]
+#[derive(Clone, Copy)]
 pub enum Release {
     Absent,
     At(u64),
@@ -46,7 +46,7 @@ pub enum Release {
 
 // 01: order. `origins` is the 16-bit set of the places come from, `timings` go by resource number, and the first `len`
 // requirements count. No windows and no blocks: an order without a calendar.
-#[derive(Drop)]
+#[derive(Clone, Copy)]
 pub struct Activity {
     pub category: u8,
     pub duration: ActivityDuration,
@@ -60,7 +60,7 @@ pub struct Activity {
 }
 
 // What asking for an order's durations answers: the three of them, or a refusal's number.
-#[derive(Drop)]
+#[derive(Clone, Copy)]
 pub enum DurationAnswer {
     Lasts(ActivityDuration),
     Refused(u8),

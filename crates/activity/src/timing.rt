@@ -6,7 +6,7 @@ ghost use Rattle.activity.specs.Lawful.{Short, LawfulTiming, LawfulLead, leading
 use crate::{ActivityDuration, ResourceTiming};
 
 // The own durations that lead so far (the Rust's `fixed`).
-#[derive(Drop)]
+#[derive(Clone, Copy)]
 pub enum Fixed {
     Unset,
     Own(ActivityDuration),

@@ -1,5 +1,7 @@
 // Speeds are doubles: which are taken, and the process time at one, rounded from the bits (01, 'Durations, setups, transport'; the
 // quotient of the Rust's `timed_duration` in models/activity.rs).
+#![tactic(auto)]
+
 ghost use Rattle.std.specs.Prelude.{◌≡◌, ◌≤◌, ◌^◌};
 ghost use Rattle.activity_speeds.specs.Speeds.{round_away, is_speed, process_at, UpTo, WithinPower};
 

@@ -12,7 +12,7 @@ use timeline::ResourceTimeline;
 const LONGEST: i64 = 68719476736;
 
 // The setups of a resource by category: 16 * last + this, and the first entries; -1 is an absent entry. Not present: 0 throughout.
-#[derive(Drop)]
+#[derive(Clone, Copy)]
 pub struct TransitionMatrix {
     pub present: bool,
     pub default: i64,
@@ -22,14 +22,14 @@ pub struct TransitionMatrix {
 }
 
 // The category that was last on a resource.
-#[derive(Drop)]
+#[derive(Clone, Copy)]
 pub enum LastCategory {
     Nothing,
     Category(u8),
 }
 
 // A resource: `count` companions in order, the cells past them 0.
-#[derive(Drop)]
+#[derive(Clone, Copy)]
 pub struct Resource {
     pub number: u8,
     pub kind: u8,
@@ -42,7 +42,7 @@ pub struct Resource {
 }
 
 // The resources in board order, the cells past `len` 0; the transport by 16 * from + to.
-#[derive(Drop)]
+#[derive(Clone, Copy)]
 pub struct Board {
     pub resources: [Resource; 16],
     pub len: usize,
@@ -50,14 +50,14 @@ pub struct Board {
 }
 
 // What an entry answers: the refusal's number, 0 for none, and the board, new or unchanged.
-#[derive(Drop)]
+#[derive(Clone, Copy)]
 pub struct Entered {
     pub refusal: u8,
     pub board: Board,
 }
 
 // What looking up a diary answers: the refusal's number, 0 for none, and the diary, or a blank one.
-#[derive(Drop)]
+#[derive(Clone, Copy)]
 pub struct Looked {
     pub refusal: u8,
     pub timeline: ResourceTimeline,

@@ -16,7 +16,7 @@ pub fn is_on(places: &[usize; 16], number: u8) -> bool
 }
 
 // The refusal of an entry for a resource by the board and its number, 0 for none; then its place.
-#[derive(Drop)]
+#[derive(Clone, Copy)]
 pub struct PlaceFor {
     pub refusal: u8,
     pub place: usize,

@@ -10,7 +10,7 @@ ghost use Rattle.board.specs.Places.{Known, Lengths, FewBookings};
 
 // Whether the board keeps the rules; if so, the place of each number on it, 16 for a number that is not there, and how many bookings
 // the diary at each place has.
-#[derive(Drop)]
+#[derive(Clone, Copy)]
 pub struct Places {
     pub right: bool,
     pub places: [usize; 16],

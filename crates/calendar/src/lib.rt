@@ -1,4 +1,6 @@
 // A calendar: up to 32 windows and 32 blocks (models/calendar.rs; 01, 'Calendar' and the replies of 'Window or block').
+#![tactic(auto)]
+
 pub mod limits;
 
 ghost use Rattle.std.specs.Prelude.{◌≡◌, true, ◌<◌};
@@ -9,7 +11,7 @@ ghost use Rattle.calendar.specs.Add.{add_refusal, with_span, empty, add_window, 
 use limits::LAST_INSTANT;
 
 // Up to 32 spans [start, end), the cells past `len` 0.
-#[derive(Drop)]
+#[derive(Clone, Copy)]
 pub struct TimeWindows {
     pub starts: [u64; 32],
     pub ends: [u64; 32],
@@ -17,14 +19,14 @@ pub struct TimeWindows {
 }
 
 // No windows means always open; a block shuts whatever window it meets.
-#[derive(Drop)]
+#[derive(Clone, Copy)]
 pub struct Calendar {
     pub windows: TimeWindows,
     pub blocks: TimeWindows,
 }
 
 // What adding answers: the refusal's number, 0 for none, and the calendar, new or unchanged.
-#[derive(Drop)]
+#[derive(Clone, Copy)]
 pub struct Added {
     pub refusal: u8,
     pub calendar: Calendar,

@@ -6,7 +6,7 @@ ghost use Rattle.calendar.specs.Work.{work_end};
 ghost use Rattle.cells.specs.Cells.{before, Rising, Before};
 ghost use Rattle.calendar_work.specs.Layout.{laid, Edges, found_of};
 
-#[derive(Drop)]
+#[derive(Clone, Copy)]
 pub enum WorkEnd {
     At(u64),
     Nothing,

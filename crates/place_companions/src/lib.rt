@@ -47,7 +47,7 @@ pub fn seat_of(
 }
 
 // How far the asking has come: those in front of the one to ask next can start at `start`. At 0 and 0 nobody is asked yet.
-#[derive(Drop)]
+#[derive(Clone, Copy)]
 pub struct Asking {
     pub start: u64,
     pub next: usize,
@@ -108,7 +108,7 @@ pub fn answered(i: usize, from: u64, s: Start) -> Asking
 
 // The one of a resource and its companions that is asked next, by its place on the board: the units wanted of it, and from when on. The
 // place is 16 where the resource does not serve, or a companion is not on the board.
-#[derive(Drop)]
+#[derive(Clone, Copy)]
 pub struct Member {
     pub place: usize,
     pub units: u32,

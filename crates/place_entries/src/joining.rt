@@ -9,14 +9,14 @@ ghost use Rattle.place_entries.specs.Cells.{entry_number, Small, first_entries, 
 use scheduler::Entry;
 
 // The first `count` are the entries.
-#[derive(Drop)]
+#[derive(Clone, Copy)]
 pub struct Entries {
     pub entries: [Entry; 24],
     pub count: usize,
 }
 
 // The companions of those held, one behind another.
-#[derive(Drop)]
+#[derive(Clone, Copy)]
 pub struct Companions {
     pub numbers: [u8; 32],
     pub len: usize,

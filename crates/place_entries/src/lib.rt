@@ -20,14 +20,14 @@ use joining::{Companions, join_each};
 pub use joining::{Entries, no_entries};
 
 // The entries of a placement, and its span.
-#[derive(Drop)]
+#[derive(Clone, Copy)]
 pub struct Spanned {
     pub entries: Entries,
     pub span: u64,
 }
 
 // What the entries take from the plans: the numbers held, which of them have a matrix, the setups of those, and the companions.
-#[derive(Drop)]
+#[derive(Clone, Copy)]
 struct Parts {
     numbers: [u8; 8],
     matrices: [bool; 8],

@@ -17,7 +17,7 @@ use timeline::ResourceTimeline;
 use timeline_fit::Start;
 
 // A start with its end, or none.
-#[derive(Drop)]
+#[derive(Clone, Copy)]
 pub enum Fit {
     At(u64, u64),
     Nothing,

@@ -10,7 +10,7 @@ use board::Resource;
 
 // A resource with its companions, its span, process time and arrival, whether it has a matrix, and the setup by that: none of them changes
 // from round to round.
-#[derive(Drop)]
+#[derive(Clone, Copy)]
 pub struct Plan {
     pub number: u8,
     pub kind: u8,

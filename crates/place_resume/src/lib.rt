@@ -25,7 +25,7 @@ use timeline::ResourceTimeline;
 
 // An instant tried: the joint end of the work from it, whether all diaries asked so far are free up to that, and the next instant at
 // which something can first start on one of them; not laid while the joint time is not laid out yet.
-#[derive(Drop)]
+#[derive(Clone, Copy)]
 struct Trial {
     at: u64,
     end: u64,

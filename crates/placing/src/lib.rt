@@ -14,7 +14,7 @@ use place_fit::Fit;
 use scheduler::rows::Row;
 
 // The numbers of a placement: the choosing instant, the start and the end, and how many entries stand at the front of the slate.
-#[derive(Drop)]
+#[derive(Clone, Copy)]
 pub struct Placed {
     pub choosing: u64,
     pub start: u64,
@@ -23,7 +23,7 @@ pub struct Placed {
 }
 
 // What placing answers: a placement, 'chosen, none' with the choosing instant, none, or a refusal.
-#[derive(Drop)]
+#[derive(Clone, Copy)]
 pub enum PlaceReply {
     Placed(Placed),
     ChosenNone(u64),

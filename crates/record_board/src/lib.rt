@@ -13,7 +13,7 @@ ghost use Rattle.record_bodies.specs.Bodies.{diary_len, fixed_len, len_of};
 ghost use Rattle.record_board.specs.Records.{signed as signed_of, refusal_of, diary_does, add_does, entry_reply, step_reply};
 
 // What a record does: what is in hand afterwards, and the refusal's number, 0 for none. 9 ends the stream.
-#[derive(Drop)]
+#[derive(Clone, Copy)]
 pub struct DeskStepped {
     pub desk: Desk,
     pub refusal: u8,

@@ -15,7 +15,7 @@ use record_desk::Desk;
 use timeline::ResourceTimeline;
 
 // What a part of an order answers: the refusal's number, 0 for none, and the order, new or unchanged.
-#[derive(Drop)]
+#[derive(Clone, Copy)]
 pub struct Ordered {
     pub refusal: u8,
     pub activity: Activity,

@@ -9,7 +9,7 @@ use calendar::Calendar;
 use timeline::ResourceTimeline;
 
 // What is in hand: a diary, an order, a board.
-#[derive(Drop)]
+#[derive(Clone, Copy)]
 pub struct Desk {
     pub timeline: ResourceTimeline,
     pub activity: Activity,

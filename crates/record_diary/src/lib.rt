@@ -11,14 +11,14 @@ use timeline::{Booked, ResourceTimeline};
 use timeline_asks::Answer;
 
 // What a record does: the diary afterwards, and what it prints.
-#[derive(Drop)]
+#[derive(Clone, Copy)]
 pub struct DiaryStepped {
     pub timeline: ResourceTimeline,
     pub line: Line,
 }
 
 // A record read from a run of bytes: what it did, where the next one begins, and whether to go on.
-#[derive(Drop)]
+#[derive(Clone, Copy)]
 pub struct DiaryTurn {
     pub timeline: ResourceTimeline,
     pub line: Line,

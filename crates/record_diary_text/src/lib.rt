@@ -4,7 +4,7 @@ mod lines;
 pub use lines::text;
 
 // What a record prints.
-#[derive(Drop)]
+#[derive(Clone, Copy)]
 pub enum Line {
     Nothing,
     Fit(u64, u64),

@@ -12,7 +12,7 @@ use record_desk::Desk;
 use scheduler::rows::Row;
 
 // What a record answers; `Nothing` prints nothing.
-#[derive(Drop)]
+#[derive(Clone, Copy)]
 pub enum OfferAnswer {
     Nothing,
     Placed(Placed),
@@ -23,7 +23,7 @@ pub enum OfferAnswer {
 }
 
 // A record read from a run of bytes: what is in hand, what it answered, where the next one begins, and whether to go on.
-#[derive(Drop)]
+#[derive(Clone, Copy)]
 pub struct OfferTurn {
     pub desk: Desk,
     pub answer: OfferAnswer,

@@ -14,7 +14,7 @@ use record_bodies::{body_len, number, wide};
 use record_desk::Desk;
 
 // What a record answers; `Nothing` prints nothing.
-#[derive(Drop)]
+#[derive(Clone, Copy)]
 pub enum QueryAnswer {
     Nothing,
     Lasts(u64, u64, u64),
@@ -156,7 +156,7 @@ fn ask(desk: Desk, kind: u8, bytes: &[u8], at: usize) -> QueryAnswer
 }
 
 // A record read from a run of bytes: what is in hand, what it answered, where the next one begins, and whether to go on.
-#[derive(Drop)]
+#[derive(Clone, Copy)]
 pub struct QueryTurn {
     pub desk: Desk,
     pub answer: QueryAnswer,

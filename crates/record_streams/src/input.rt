@@ -3,7 +3,7 @@ ghost use Rattle.std.specs.Prelude.{◌≡◌, ◌+◌, ◌-◌, ◌≤◌, leng
 ghost use Rattle.record_streams.specs.Input.{Lies, Supplied};
 
 // The bytes from `at` to `len` of a buffer are unread, and `live` says that more may come.
-#[derive(Drop)]
+#[derive(Clone, Copy)]
 pub struct Input {
     pub at: usize,
     pub len: usize,

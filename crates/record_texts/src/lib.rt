@@ -1,5 +1,7 @@
 // Text put into a buffer from an index on, one piece behind the other. Each function answers where it ends, and leaves the rest of the
 // buffer as it was. The paper takes this for granted ('Program slot').
+#![tactic(auto)]
+
 ghost use Rattle.std.specs.Prelude.{◌∷◌, ◌+◌, ◌≤◌, length, take};
 ghost use Rattle.record_texts.specs.Text.{Put, decimal};
 

@@ -11,7 +11,7 @@ use calendar_joint::JointTime;
 use calendar_work::WorkEnd;
 
 // The calendar in hand, the list of calendars, and the list and the instant of the last layout.
-#[derive(Drop)]
+#[derive(Clone, Copy)]
 struct Runs {
     hand: Calendar,
     list: [Calendar; 25],
@@ -322,7 +322,7 @@ fn step(mut s: Runs, kind: u8, body: &[u8; 28]) -> Runs {
 }
 
 // One record read and done, and whether to go on.
-#[derive(Drop)]
+#[derive(Clone, Copy)]
 struct Done {
     more: bool,
     runs: Runs,

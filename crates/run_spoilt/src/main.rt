@@ -16,7 +16,7 @@ ghost use Rattle.std.specs.Prelude.{◌≤◌, length};
 use random::{next, word};
 
 // How often each reply came; the refusals by their number.
-#[derive(Drop)]
+#[derive(Clone, Copy)]
 struct Tally {
     runs: u64,
     placed: u64,
@@ -29,7 +29,7 @@ struct Tally {
 }
 
 // What is committed: how many entries, from when to when, and the category.
-#[derive(Drop)]
+#[derive(Clone, Copy)]
 struct Commitment {
     count: usize,
     start: u64,

@@ -6,7 +6,7 @@ ghost use Rattle.scheduler.specs.Entries.{held_entry, companion_entry, no_entry}
 pub mod rows;
 
 // A resource held (one of the Rust's `selections`), by its place on the board, with its start and the units wanted of it.
-#[derive(Drop)]
+#[derive(Clone, Copy)]
 pub struct Selection {
     pub place: usize,
     pub start: u64,
@@ -14,7 +14,7 @@ pub struct Selection {
 }
 
 // An entry of a placement: resource, setup, units, companion or not.
-#[derive(Drop)]
+#[derive(Clone, Copy)]
 pub struct Entry {
     pub number: u8,
     pub setup: u64,

@@ -14,7 +14,7 @@ ghost use Rattle.timeline.specs.Book.{book_reply, book_refusal};
 
 // 01: diary. The booking in cell i is starts[i], ends[i], units[i], and latest[i] the latest end of cells 0 to i (the Rust's
 // latest_end_to). Cells past `len` are 0. No windows and no blocks: a diary without a calendar.
-#[derive(Drop)]
+#[derive(Clone, Copy)]
 pub struct ResourceTimeline {
     pub capacity: u32,
     pub calendar: Calendar,
@@ -27,7 +27,7 @@ pub struct ResourceTimeline {
 }
 
 // What a booking answers, and a window or a block of a diary: the refusal's number, 0 for none, and the diary, new or unchanged.
-#[derive(Drop)]
+#[derive(Clone, Copy)]
 pub struct Booked {
     pub refusal: u8,
     pub timeline: ResourceTimeline,

@@ -9,7 +9,7 @@ use calendar_work::WorkEnd;
 use timeline::ResourceTimeline;
 
 // What asking a diary answers: a start with its end, none, or a refusal's number.
-#[derive(Drop)]
+#[derive(Clone, Copy)]
 pub enum Answer {
     Fit(u64, u64),
     None,

@@ -9,7 +9,7 @@ use calendar::{Added, Calendar};
 use timeline::{Booked, ResourceTimeline};
 
 // A window record: [start, end).
-#[derive(Drop)]
+#[derive(Clone, Copy)]
 pub struct TimeWindow {
     pub start: u64,
     pub end: u64,

@@ -5,7 +5,7 @@ ghost use Rattle.timeline_readings.specs.Reading.{read_of, read, capacity_read, 
 use timeline::ResourceTimeline;
 
 // What reading a diary answers: a number, or a refusal's number.
-#[derive(Drop)]
+#[derive(Clone, Copy)]
 pub enum Reading {
     Value(u64),
     Refused(u8),

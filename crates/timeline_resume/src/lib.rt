@@ -13,7 +13,7 @@ use calendar_work::WorkEnd;
 use timeline::ResourceTimeline;
 
 // The least start of resumable work, and its end; nothing where there is none.
-#[derive(Drop)]
+#[derive(Clone, Copy)]
 pub struct Resumable {
     pub start: u64,
     pub end: WorkEnd,

@@ -60,4 +60,6 @@ pairs-map-each P R f g (x ∷ xs) h (each_on p a) = pairs_on (h x p) (pairs-map-
 
 pub pairs-append : {A : Type 0} (R : A → A → Type 0) (xs ys us vs : List A) → Pairs R xs ys → Pairs R us vs → Pairs R (xs ++ us) (ys ++ vs)
 pairs-append R [] [] us vs pairs_end q = q
+pairs-append R [] (y ∷ ys) us vs p q = elim p [ ]
+pairs-append R (x ∷ xs) [] us vs p q = elim p [ ]
 pairs-append R (x ∷ xs) (y ∷ ys) us vs (pairs_on r p) q = pairs_on r (pairs-append R xs ys us vs p q)
