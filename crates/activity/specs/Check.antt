@@ -1,5 +1,5 @@
 -- 01, the replies of 'Placing': the checks of an order, and the reply of asking for its durations.
-use Rattle.core.specs.Prelude.{ℕ, ◌+◌, Bool, true, cond, not, ◌&&◌, ◌||◌, leb, List, [], ◌∷◌, take, nat_le, nat_lt}
+use Rattle.std.specs.Prelude.{ℕ, ◌+◌, Bool, true, cond, not, ◌&&◌, ◌||◌, leb, List, [], ◌∷◌, take, nat_le, nat_lt}
 use Rattle.calendar.specs.Refusals.{refused_or}
 use Rattle.cells.specs.Every.{every}
 use Rattle.calendar.specs.Limits.{last_instant, longest_duration, most_units}

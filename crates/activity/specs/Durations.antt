@@ -1,5 +1,5 @@
 -- 01, 'Durations, setups, transport': the durations of an order over several resources in holding order.
-use Rattle.core.specs.Prelude.{ℕ, ◌+◌, cond, List, [], ◌∷◌, map, nat_lt, slice_index_or}
+use Rattle.std.specs.Prelude.{ℕ, ◌+◌, cond, List, [], ◌∷◌, map, nat_lt, slice_index_or}
 use Rattle.std.specs.Prelude.{Float}
 use Rattle.std.specs.Float.{binary64}
 use Rattle.std.specs.Float.Ieee.{mul}

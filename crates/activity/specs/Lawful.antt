@@ -1,6 +1,6 @@
 -- What the functions behind the checks may take for granted of an order (`accepted` in Laws/Judging.antt: an order that is
 -- not refused is lawful).
-use Rattle.core.specs.Prelude.{◌≡◌, ℕ, ◌≤◌, true, List}
+use Rattle.std.specs.Prelude.{◌≡◌, ℕ, ◌≤◌, true, List}
 use Rattle.calendar.specs.Limits.{longest_duration}
 use Rattle.activity.specs.declared.ActivityDuration.{ActivityDuration}
 use Rattle.activity.specs.declared.ResourceTiming.{ResourceTiming}

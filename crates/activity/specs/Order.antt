@@ -1,5 +1,5 @@
 -- An order as it is made, and with one thing changed.
-use Rattle.core.specs.Prelude.{ℕ, ◌+◌, Bool, cond, List, replicate, nat_lt, slice_set}
+use Rattle.std.specs.Prelude.{ℕ, ◌+◌, Bool, cond, List, replicate, nat_lt, slice_set}
 use Rattle.calendar.specs.declared.Calendar.{Calendar}
 use Rattle.activity.specs.declared.ActivityDuration.{ActivityDuration}
 use Rattle.activity.specs.declared.ResourceTiming.{ResourceTiming}

@@ -1,5 +1,5 @@
 -- 01, 'Placing': from when an order may start.
-use Rattle.core.specs.Prelude.{ℕ, max}
+use Rattle.std.specs.Prelude.{ℕ, max}
 use Rattle.activity.specs.declared.Release.{Release}
 use Rattle.activity.specs.declared.Release.TheVariants.{Absent, At}
 

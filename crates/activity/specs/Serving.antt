@@ -1,5 +1,5 @@
 -- 01, 'Placing': which resources serve a requirement.
-use Rattle.core.specs.Prelude.{ℕ, zero, suc, ◌/◌, ◌%◌, Bool, true, cond, ◌&&◌, ◌==◌, nat_le}
+use Rattle.std.specs.Prelude.{ℕ, zero, suc, ◌/◌, ◌%◌, Bool, true, cond, ◌&&◌, ◌==◌, nat_le}
 use Rattle.calendar.specs.Sets.{bit}
 use Rattle.activity.specs.declared.ResourceRequirement.{ResourceRequirement}
 

@@ -1,6 +1,6 @@
 // An order's durations over the resources held, which resource serves, and from when (models/activity.rs; 01, 'Durations, setups,
 // transport' and 'Placing'): for the crates above.
-ghost use Rattle.core.specs.Prelude.{◌≡◌, ℕ, ◌<◌, ◌≤◌, take, slice_index};
+ghost use Rattle.std.specs.Prelude.{◌≡◌, ℕ, ◌<◌, ◌≤◌, take, slice_index};
 ghost use Rattle.activity.specs.Durations.{duration_on};
 ghost use Rattle.activity.specs.Serving.{serves as serves_of};
 ghost use Rattle.activity.specs.Ready.{ready_of};

@@ -1,5 +1,7 @@
 // An order: its durations, the timings of its resources and its requirements (models/activity.rs; 01, 'Durations, setups, transport' up to
 // speeds, and the orders of 'Placing'). The checks of it are the crate `activity_checks`.
+#![tactic(auto)]
+
 use calendar::Calendar;
 
 pub mod core;

@@ -1,5 +1,5 @@
 // An order as it is made, and with one thing changed. (A field that is no enum and no array's cell is changed by assignment.)
-ghost use Rattle.core.specs.Prelude.{◌≡◌, ◌≤◌};
+ghost use Rattle.std.specs.Prelude.{◌≡◌, ◌≤◌};
 ghost use Rattle.activity.specs.Order.{order_with, with_release, with_requirement, with_timing};
 
 use crate::{Activity, ActivityDuration, Release, ResourceRequirement, ResourceTiming, Timed};

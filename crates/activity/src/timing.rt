@@ -1,5 +1,5 @@
 // One timing more: the product of speeds, and the own durations of greatest total (the loop of the Rust's `timed_duration`).
-ghost use Rattle.core.specs.Prelude.{◌≡◌};
+ghost use Rattle.std.specs.Prelude.{◌≡◌};
 ghost use Rattle.activity.specs.Durations.{total as total_of, times as times_of, greater as greater_of};
 ghost use Rattle.activity.specs.Lawful.{Short, LawfulTiming, LawfulLead, leading_of};
 

@@ -2,6 +2,8 @@
 // crates above: the calendar is valid, and nothing is checked again.
 // Searched are the windows for one that holds the span or the instant, then the blocks for one in the way, each once and one after
 // another: at most 64 looks.
+#![tactic(auto)]
+
 ghost use Rattle.std.specs.Prelude.{◌≡◌, true, ◌≤◌};
 ghost use Rattle.calendar.specs.Spans.{spans, any, holds, meets, contains};
 ghost use Rattle.calendar.specs.Valid.{valid};

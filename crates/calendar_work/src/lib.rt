@@ -1,5 +1,7 @@
 // The end of work over working time that is laid out as the rising instants at which it begins and ends (JointTime::work_end in
 // models/calendar.rs; 01, 'Calendar').
+#![tactic(auto)]
+
 ghost use Rattle.std.specs.Prelude.{◌≡◌, ◌≤◌, ◌<◌, length};
 ghost use Rattle.calendar.specs.Limits.{never};
 ghost use Rattle.calendar.specs.Work.{work_end};

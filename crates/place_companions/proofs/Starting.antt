@@ -1,5 +1,5 @@
 -- The start that a resumable ask answers is the least one of the definition.
-use Rattle.core.specs.Prelude.{◌≡◌, ℕ, true, false, [], ◌∷◌}
+use Rattle.std.specs.Prelude.{◌≡◌, ℕ, true, false, [], ◌∷◌}
 use mathlib.Core.Path.{refl, ap, ◌∙◌}
 use Rattle.cells.specs.Laws.Basics.{not-both}
 use Rattle.calendar.specs.Search.{Found, nothing, at, Answers}

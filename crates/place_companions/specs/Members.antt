@@ -1,5 +1,5 @@
 -- The one of a resource and its companions that is asked next, as the code keeps it.
-use Rattle.core.specs.Prelude.{ℕ, max, cond, List, take, nat_lt}
+use Rattle.std.specs.Prelude.{ℕ, max, cond, List, take, nat_lt}
 use Rattle.activity.specs.declared.ResourceRequirement.{ResourceRequirement}
 use Rattle.activity.specs.Serving.{serves}
 use Rattle.place_plans.specs.declared.Plan.{Plan}

@@ -1,5 +1,5 @@
 -- The places of a resource and its companions, as the code keeps them.
-use Rattle.core.specs.Prelude.{ℕ, cond, List, ◌∷◌, map, slice_index, slice_index_or}
+use Rattle.std.specs.Prelude.{ℕ, cond, List, ◌∷◌, map, slice_index, slice_index_or}
 use Rattle.cells.specs.Every.{every}
 use Rattle.board.specs.Places.{has_place}
 

@@ -1,5 +1,5 @@
 -- How far the asking of several diaries has come.
-use Rattle.core.specs.Prelude.{ℕ, ◌==◌}
+use Rattle.std.specs.Prelude.{ℕ, ◌==◌}
 use Rattle.calendar.specs.Limits.{never}
 use Rattle.calendar.specs.Search.{Found, nothing, at}
 use Rattle.scheduler.specs.Shares.{next_asked}

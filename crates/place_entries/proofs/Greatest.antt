@@ -1,5 +1,5 @@
 -- The greatest setup, one entry more looked at.
-use Rattle.core.specs.Prelude.{◌≡◌, ℕ, ◌+◌, ◌<◌, max, List, [], ◌∷◌, ◌++◌, length, get_or, take}
+use Rattle.std.specs.Prelude.{◌≡◌, ℕ, ◌+◌, ◌<◌, max, List, [], ◌∷◌, ◌++◌, length, get_or, take}
 use mathlib.Core.Path.{ap, ◌∙◌}
 use Rattle.calendar.specs.Laws.Searching.{greatest-snoc}
 use Rattle.scheduler.specs.declared.Entry.{Entry}

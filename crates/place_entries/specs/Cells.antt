@@ -1,5 +1,5 @@
 -- What is read of the cells of the entries, and of their companions' numbers.
-use Rattle.core.specs.Prelude.{ℕ, ◌<◌, List, [], ◌++◌, map, take}
+use Rattle.std.specs.Prelude.{ℕ, ◌<◌, List, [], ◌++◌, map, take}
 use Rattle.scheduler.specs.declared.Entry.{Entry}
 use Rattle.scheduler.specs.Fitting.{join_each}
 use Rattle.scheduler.specs.Entries.{companion_entry}

@@ -1,6 +1,6 @@
 // The companions that join the entries of those held, once each (the second half of `place_activity` in scheduler/simple.rs; 01,
 // 'Fitting').
-ghost use Rattle.core.specs.Prelude.{◌≡◌, ◌≤◌, map, length, replicate};
+ghost use Rattle.std.specs.Prelude.{◌≡◌, ◌≤◌, map, length, replicate};
 ghost use Rattle.scheduler.specs.Fitting.{among};
 ghost use Rattle.cells.specs.Every.{Each};
 ghost use Rattle.scheduler.specs.Entries.{no_entry};

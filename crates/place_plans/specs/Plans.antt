@@ -1,5 +1,5 @@
 -- What an order needs of each resource alone, as the code keeps it, by the resource's place on the board.
-use Rattle.core.specs.Prelude.{◌≡◌, ℕ, ◌+◌, ◌<◌, ◌≤◌, false, List, [], length, replicate, slice_index_or}
+use Rattle.std.specs.Prelude.{◌≡◌, ℕ, ◌+◌, ◌<◌, ◌≤◌, false, List, [], length, replicate, slice_index_or}
 use Rattle.calendar.specs.Limits.{last_asked}
 use Rattle.activity.specs.declared.Activity.{Activity}
 use Rattle.board.specs.declared.Resource.{Resource}

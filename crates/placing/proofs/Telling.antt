@@ -1,5 +1,5 @@
 -- The closing fit in the words of the definition, and the refusals.
-use Rattle.core.specs.Prelude.{◌≡◌, ℕ, ◌≤◌, true, cond, not, ◌||◌, ltb, List, ◌++◌, map, length, drop}
+use Rattle.std.specs.Prelude.{◌≡◌, ℕ, ◌≤◌, true, cond, not, ◌||◌, ltb, List, ◌++◌, map, length, drop}
 use mathlib.Core.Path.{refl, sym, ap, ◌∙◌}
 use borrow.Author.Tests.{not-false, ltb-false}
 use Rattle.cells.specs.Laws.Basics.{or_left, or_right, unrefused}

@@ -1,6 +1,6 @@
 -- What an answer of `place_activity` says of the paper's reply: each of its cases with the paper's values and number; the entries stand on
 -- the slate.
-use Rattle.core.specs.Prelude.{length}
+use Rattle.std.specs.Prelude.{length}
 use Rattle.calendar.specs.Search.{Found, nothing, at}
 use Rattle.scheduler.specs.Placing.{Placement, Reply, placed, chosen_none, none, refused}
 use Rattle.placing.specs.declared.Placed.{Placed}

@@ -1,5 +1,5 @@
 // Placing an order on a board (`place_activity` in scheduler/simple.rs; 01, 'Placing' and its replies).
-ghost use Rattle.core.specs.Prelude.{◌≡◌, ◌≤◌, ◌++◌, map, length, drop};
+ghost use Rattle.std.specs.Prelude.{◌≡◌, ◌≤◌, ◌++◌, map, length, drop};
 ghost use Rattle.board.specs.declared.Board as declared;
 ghost use Rattle.board.specs.Valid.{valid};
 ghost use Rattle.scheduler.specs.Placing.{slate_after, place_refusal, place_reply};

@@ -1,4 +1,6 @@
 // The body of a record (docs/RECORDS.md): the numbers in it, and how long it is, of a diary's kinds and of those of a board and an order.
+#![tactic(auto)]
+
 mod numbers;
 
 ghost use Rattle.std.specs.Prelude.{◌≡◌, ◌≤◌, ◌<◌, length};

@@ -1,5 +1,5 @@
 -- The asks of the runs beside the Rust, kinds 40 to 43.
-use Rattle.core.specs.Prelude.{ℕ, ◌+◌, ◌-◌, true, false, cond, not, List, [], ◌∷◌, ◌==◌, nat_le, nat_lt}
+use Rattle.std.specs.Prelude.{ℕ, ◌+◌, ◌-◌, true, false, cond, not, List, [], ◌∷◌, ◌==◌, nat_le, nat_lt}
 use Rattle.calendar.specs.Limits.{longest_duration}
 use Rattle.calendar.specs.Refusals.{refused_or}
 use Rattle.record_bodies.specs.Numbers.{little}

@@ -1,6 +1,6 @@
 // Four asks for runs beside the Rust (tests/beside/README.md, kinds 40 to 43): the durations of the order in hand, the setup on a
 // resource, the transport to one, and whether one serves a requirement.
-ghost use Rattle.core.specs.Prelude.{◌≡◌, ◌+◌, ◌<◌, ◌≤◌, true, length};
+ghost use Rattle.std.specs.Prelude.{◌≡◌, ◌+◌, ◌<◌, ◌≤◌, true, length};
 ghost use Rattle.activity.specs.Check.{reply_of};
 ghost use Rattle.board.specs.Valid.{last_right};
 ghost use Rattle.record_queries.specs.Asks.{held_at, last_of, duration_line, setup_reply, transport_reply, serves_reply};

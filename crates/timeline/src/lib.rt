@@ -1,5 +1,7 @@
 // A diary: bookings by start with their running latest ends, a calendar and a capacity (scheduler/timeline.rs; 01, 'Diary' and the
 // replies of 'Booking').
+#![tactic(auto)]
+
 use calendar::Calendar;
 use calendar::limits::{LAST_INSTANT, MOST_UNITS};
 

@@ -1,5 +1,5 @@
 -- Required skills as masks.
-use Rattle.core.specs.Prelude.{◌≡◌, ℕ, zero, suc, ◌/◌, ◌%◌, ◌^◌, ◌<◌, Bool, true, false, leb, ◌≢◌, bit_and, nat_le}
+use Rattle.std.specs.Prelude.{◌≡◌, ℕ, zero, suc, ◌/◌, ◌%◌, ◌^◌, ◌<◌, Bool, true, false, leb, ◌≢◌, bit_and, nat_le}
 use Rattle.std.specs.Prelude.{refl}
 use Rattle.std.proofs.Common.{pow-suc, arith, le-leb, leb-true}
 use Rattle.std.specs.Int.Bits.{and_step, and_zero_l}

@@ -1,6 +1,6 @@
 -- What the definitions of an order amount to: which own durations win, what a process time is in exact cases and how near it is
 -- otherwise, how large durations get, and what serving means bit by bit.
-use Rattle.core.specs.Prelude.{◌≡◌, ℕ, zero, suc, ◌+◌, ◌-◌, ◌*◌, ◌/◌, ◌%◌, ◌^◌, ◌<◌, ◌≤◌, Bool, true, false, cond, T, ◌⊎◌, List, [], ◌∷◌, length, get_or, pos, negsuc, ◌==◌, ◌≢◌, nat_eq, nat_le, nat_lt, slice_index_or}
+use Rattle.std.specs.Prelude.{◌≡◌, ℕ, zero, suc, ◌+◌, ◌-◌, ◌*◌, ◌/◌, ◌%◌, ◌^◌, ◌<◌, ◌≤◌, Bool, true, false, cond, T, ◌⊎◌, List, [], ◌∷◌, length, get_or, pos, negsuc, ◌==◌, ◌≢◌, nat_eq, nat_le, nat_lt, slice_index_or}
 use Rattle.std.proofs.Math.Path.{refl}
 use Rattle.std.proofs.Common.{sym, ap, ◌∙◌, subst, inl, inr, ⊎_elim, le_trans, le_of_lt, lt_of_lt_of_le, zero-lt-suc, mul-pos, mul-one, one-mul, mul_assoc, mul_right_comm, div-one, eq-or-lt_of_le, arith, lit≤, pow-add, pow_mono, shl_lt, lt-ltb, le-ltb, le-leb, leb-true, eq-eqb, ne_eqb, eqb-true}
 use Rattle.std.proofs.Math.Nat.{div-eq_of_lt-le, div-div-eq-div-mul, pow-succ'}

@@ -1,5 +1,5 @@
 -- Durations, the edges of speeds and of an order, and who serves, on the definitions: what the marked runs do not show.
-use Rattle.core.specs.Prelude.{◌≡◌, ℕ, ◌^◌, true, false, [], ◌∷◌, pos, negsuc}
+use Rattle.std.specs.Prelude.{◌≡◌, ℕ, ◌^◌, true, false, [], ◌∷◌, pos, negsuc}
 use Rattle.std.specs.Prelude.{refl, Float}
 use Rattle.std.specs.Float.{nan, inf, fin, binary64}
 use Rattle.std.specs.Float.Ieee.{of_bits, le, eq, mul, div, of_int}

@@ -1,7 +1,7 @@
 -- `activity_durations::duration_on` meets its contract.
 use borrow.Author.Rules.{rules}
 use borrow.Author.Tests.{not-true, not-false}
-use Rattle.core.specs.Prelude.{◌≡◌, ℕ, true, false, List, take}
+use Rattle.std.specs.Prelude.{◌≡◌, ℕ, true, false, List, take}
 use mathlib.Core.Path.{refl, sym, ◌∙◌}
 use Rattle.calendar.specs.Refusals.{refused_or}
 use Rattle.calendar.specs.Laws.Refusals.{refused-by}

@@ -3,7 +3,7 @@ use Rattle.place_companions.proofs.member_of.Statement.{statement}
 use Rattle.place_companions.proofs.member_of.Tie as tie
 use borrow.Author.Rules.{rules}
 use borrow.Author.Tests.{lt-ltb, le-ltb}
-use Rattle.core.specs.Prelude.{◌≡◌, cond, ltb, take}
+use Rattle.std.specs.Prelude.{◌≡◌, cond, ltb, take}
 use mathlib.Core.Path.{refl, sym, ◌∙◌}
 use mathlib.Core.Logic.{⊎_elim}
 use Rattle.activity.specs.Serving.{serves}

@@ -2,7 +2,7 @@
 use Rattle.place_companions.proofs.seat_of.Statement.{statement}
 use Rattle.place_companions.proofs.seat_of.Tie as tie
 use borrow.Author.Rules.{rules}
-use Rattle.core.specs.Prelude.{◌≡◌, ◌-◌, ◌≤◌, length}
+use Rattle.std.specs.Prelude.{◌≡◌, ◌-◌, ◌≤◌, length}
 use native.Mathlib.Omega.{arith}
 use Rattle.place_companions.proofs.Seating.{Sits, sits-none, sits_here, sits_on, sits-off, sits-all}
 

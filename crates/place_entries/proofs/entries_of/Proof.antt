@@ -3,7 +3,7 @@ use borrow.Author.Rules.{rules}
 use Rattle.place_entries.proofs.entries_of.Statement.{statement}
 use Rattle.place_entries.proofs.entries_of.Tie as tie
 use mathlib.Core.Path.{◌∙◌}
-use Rattle.core.specs.Prelude.{ℕ, ◌^◌, ◌≤◌}
+use Rattle.std.specs.Prelude.{ℕ, ◌^◌, ◌≤◌}
 use native.Mathlib.Omega.{arith}
 use Rattle.activity.specs.Theorems.Meaning.{Bounded}
 use Rattle.board.specs.declared.Board.{Board}

@@ -4,7 +4,7 @@ use Rattle.place_entries.proofs.greatest_setup.Statement.{statement}
 use Rattle.place_entries.proofs.greatest_setup.Tie as tie
 use Rattle.place_entries.proofs.greatest_setup.Reads as reads
 use Rattle.place_entries.proofs.greatest_setup.Lts as lts
-use Rattle.core.specs.Prelude.{◌≡◌, ◌-◌, ◌≤◌, length, take}
+use Rattle.std.specs.Prelude.{◌≡◌, ◌-◌, ◌≤◌, length, take}
 use mathlib.Core.Path.{refl, ◌∙◌}
 use mathlib.Core.Logic.{⊎_elim}
 use native.Mathlib.Omega.{arith}

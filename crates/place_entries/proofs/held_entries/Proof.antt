@@ -1,7 +1,7 @@
 -- `place_entries::held_entries` meets its contract. The loop: the first i of those held are entered.
 use Rattle.place_entries.proofs.held_entries.Statement.{statement}
 use Rattle.place_entries.proofs.held_entries.Tie as tie
-use Rattle.core.specs.Prelude.{◌≡◌, ℕ, ◌-◌, ◌<◌, ◌≤◌, false, cond, length, get_or}
+use Rattle.std.specs.Prelude.{◌≡◌, ℕ, ◌-◌, ◌<◌, ◌≤◌, false, cond, length, get_or}
 use mathlib.Core.Path.{refl, ap, ◌∙◌}
 use native.Mathlib.Omega.{arith}
 use borrow.Author.Rules.{rules}

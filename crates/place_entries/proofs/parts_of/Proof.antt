@@ -1,7 +1,7 @@
 -- `place_entries::parts_of` meets its contract. The loop: what the plans of the first i held have is taken.
 use Rattle.place_entries.proofs.parts_of.Statement.{statement}
 use Rattle.place_entries.proofs.parts_of.Tie as tie
-use Rattle.core.specs.Prelude.{◌≡◌, ℕ, ◌-◌, ◌*◌, ◌<◌, ◌≤◌, false, cond, ◌++◌, length, get_or, take}
+use Rattle.std.specs.Prelude.{◌≡◌, ℕ, ◌-◌, ◌*◌, ◌<◌, ◌≤◌, false, cond, ◌++◌, length, get_or, take}
 use mathlib.Core.Path.{refl, sym, ap, ◌∙◌}
 use native.Mathlib.Omega.{arith}
 use borrow.Author.Rules.{rules}

@@ -3,7 +3,7 @@ use Rattle.place_entries.proofs.push_each.Statement.{statement}
 use Rattle.place_entries.proofs.push_each.Tie as tie
 use Rattle.place_entries.proofs.push_each.Reads as reads
 use Rattle.place_entries.proofs.push_each.Lts as lts
-use Rattle.core.specs.Prelude.{◌≡◌, ◌+◌, ◌-◌, ◌≤◌, ◌++◌, length, take}
+use Rattle.std.specs.Prelude.{◌≡◌, ◌+◌, ◌-◌, ◌≤◌, ◌++◌, length, take}
 use mathlib.Core.Path.{refl, sym, ◌∙◌, subst}
 use mathlib.Core.List.{append-nil}
 use native.Mathlib.Omega.{arith}

@@ -2,7 +2,7 @@
 use borrow.Author.Rules.{rules}
 use Rattle.place_plans.proofs.plan_of.Statement.{statement}
 use Rattle.place_plans.proofs.plan_of.Tie as tie
-use Rattle.core.specs.Prelude.{◌≡◌}
+use Rattle.std.specs.Prelude.{◌≡◌}
 use mathlib.Core.Path.{refl}
 use native.Mathlib.Omega.{arith}
 use Rattle.board.specs.Theorems.Meaning.{resource-rules}

@@ -3,7 +3,7 @@ use borrow.Author.Rules.{rules}
 use Rattle.place_entries.specs.Parts.{PlansKnown}
 use Rattle.placing.proofs.place_activity.Statement.{statement}
 use Rattle.placing.proofs.place_activity.Tie as tie
-use Rattle.core.specs.Prelude.{◌≡◌, ℕ, ◌≤◌, Bool, true, List, length, take}
+use Rattle.std.specs.Prelude.{◌≡◌, ℕ, ◌≤◌, Bool, true, List, length, take}
 use mathlib.Core.Path.{refl, sym, ap, ◌∙◌}
 use mathlib.Core.Logic.{⊎_elim}
 use native.Mathlib.Omega.{arith}

@@ -1,7 +1,7 @@
 -- `placing::write` meets its contract. The loop: the first i entries stand on the slate, and the rest of it is as it was.
 use Rattle.placing.proofs.write.Statement.{statement}
 use Rattle.placing.proofs.write.Tie as tie
-use Rattle.core.specs.Prelude.{◌≡◌, ◌-◌, ◌≤◌, length}
+use Rattle.std.specs.Prelude.{◌≡◌, ◌-◌, ◌≤◌, length}
 use mathlib.Core.Path.{refl, ap, ◌∙◌}
 use native.Mathlib.Omega.{arith}
 use borrow.Author.Rules.{rules}

@@ -1,6 +1,6 @@
 -- `record_queries::ask` meets its contract: one law for each kind.
 use borrow.Author.Rules.{rules}
-use Rattle.core.specs.Prelude.{◌+◌, ◌≤◌, length}
+use Rattle.std.specs.Prelude.{◌+◌, ◌≤◌, length}
 use native.Mathlib.Omega.{arith}
 use Rattle.record_queries.proofs.Asking.{asks-lasting, asks-setup, asks-journey, asks-serving, ask-40, ask-41, ask-42, ask-43}
 use Rattle.record_queries.proofs.ask.Statement.{statement}

@@ -3,7 +3,7 @@ use borrow.Author.Rules.{rules}
 use native.Mathlib.Omega.{arith}
 use Rattle.record_bodies.specs.Bodies.{byte}
 use mathlib.Core.Path.{refl}
-use Rattle.core.specs.Prelude.{◌+◌}
+use Rattle.std.specs.Prelude.{◌+◌}
 use Rattle.record_queries.proofs.Asking.{told_at, ends_at, record-room, ask-room, turn-none, turn-unknown, turn-told, turn-asked}
 use Rattle.record_queries.proofs.record.Statement.{statement}
 use Rattle.record_queries.proofs.record.Tie as tie

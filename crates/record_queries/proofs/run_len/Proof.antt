@@ -2,7 +2,7 @@
 use borrow.Author.Rules.{rules}
 use native.Mathlib.Omega.{arith}
 use mathlib.Core.Path.{◌∙◌}
-use Rattle.core.specs.Prelude.{◌-◌}
+use Rattle.std.specs.Prelude.{◌-◌}
 use Rattle.record_queries.specs.Asks.{ask_len}
 use Rattle.record_bodies.proofs.Lengths.{whole-cut, whole-there, body-le}
 use Rattle.record_queries.proofs.Asking.{run-record, run-ask}

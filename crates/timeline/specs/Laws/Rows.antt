@@ -68,7 +68,7 @@ total-put (suc at) b (x ∷ xs) = rw (total-put at b xs) (omega arith)
 pub latest-length : (m : ℕ) (bs : List Booking) → length (latest_ends m bs) ≡ length bs
 unfolding latest_ends
 latest-length m [] = refl
-latest-length m (b ∷ bs) = ap suc (latest-length _ bs)
+latest-length m (b ∷ bs) = ap suc (latest-length (max m b.end) bs)
 
 latest-first : (m : ℕ) (bs : List Booking) → 0 < length bs → get_or (latest_ends m bs) 0 0 ≡ max m (get_or bs 0 none).end
 unfolding latest_ends

@@ -1,7 +1,7 @@
 -- `place_entries::joining::is_among` meets its contract. The loop: none of the first i entries has the number.
 use Rattle.place_entries.proofs.joining.is_among.Statement.{statement}
 use Rattle.place_entries.proofs.joining.is_among.Tie as tie
-use Rattle.core.specs.Prelude.{◌≡◌, ◌-◌, ◌≤◌, false, map, length, take}
+use Rattle.std.specs.Prelude.{◌≡◌, ◌-◌, ◌≤◌, false, map, length, take}
 use mathlib.Core.Path.{refl, sym}
 use native.Mathlib.Omega.{arith}
 use borrow.Author.Rules.{rules}

@@ -1,7 +1,7 @@
 -- `place_entries::joining::join_each` meets its contract. The loop: the first i companions have joined, each once.
 use Rattle.place_entries.proofs.joining.join_each.Statement.{statement}
 use Rattle.place_entries.proofs.joining.join_each.Tie as tie
-use Rattle.core.specs.Prelude.{◌≡◌, ◌-◌, ◌<◌, ◌≤◌, [], map, length, take}
+use Rattle.std.specs.Prelude.{◌≡◌, ◌-◌, ◌<◌, ◌≤◌, [], map, length, take}
 use mathlib.Core.Path.{sym, ◌∙◌}
 use mathlib.Core.Logic.{⊎_elim}
 use native.Mathlib.Omega.{arith}

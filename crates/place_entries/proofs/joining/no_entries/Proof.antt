@@ -1,7 +1,7 @@
 -- `place_entries::joining::no_entries` meets its contract.
 use borrow.Author.Rules.{rules}
 use mathlib.Core.Path.{refl, ap}
-use Rattle.core.specs.Prelude.{replicate}
+use Rattle.std.specs.Prelude.{replicate}
 use Rattle.place_entries.proofs.joining.no_entries.Statement.{statement}
 use Rattle.place_entries.proofs.joining.no_entries.Tie as tie
 

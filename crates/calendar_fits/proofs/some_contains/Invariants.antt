@@ -1,0 +1,17 @@
+-- `calendar_fits::some_contains` meets its contract. The loop: what is left of the spans decides as all of them do.
+use borrow.Author.Rules.{rules}
+use mathlib.Core.Path.{◌≡◌, refl}
+use mathlib.Core.Bool.{false}
+use mathlib.Core.Logic.{⊎_elim}
+use Prim.Native.Nat.{◌-◌, ◌≤◌}
+use native.Mathlib.Omega.{arith}
+use Rattle.calendar.specs.Spans.{span_at, spans_from, spans, any, contains}
+use Rattle.calendar.specs.Laws.Spanning.{any-stop, any-more, any-done, contains-yes, contains-no}
+use native.Mathlib.Nat.{sub-zero}
+use Rattle.calendar_fits.proofs.some_contains.Given as goal
+
+abbrev pub invariant-loop-i : goal.invariant-loop-i
+invariant-loop-i l = (l.n ≡ l.l.len) × (l.n ≤ 32) × (l.i ≤ l.n) × (any (contains l.time) (spans l.l) ≡ any (contains l.time) (spans_from l.l l.i (l.n - l.i)))
+
+abbrev pub decreases-loop-i : goal.decreases-loop-i
+decreases-loop-i l = l.n - l.i

@@ -1,0 +1,15 @@
+-- `calendar_work::work_end` meets its contract. The loop: what is left of the work is left from here on (Walking).
+use borrow.Author.Rules.{rules}
+use mathlib.Core.Path.{sym}
+use Prim.Native.Nat.{◌+◌, ◌-◌, ◌^◌, ◌≤◌, ◌<◌}
+use native.Mathlib.Omega.{arith}
+use lib.ListN.{length}
+use Rattle.calendar_work.specs.Layout.{Edges, found_of}
+use Rattle.calendar_work.proofs.Walking.{edges-cells, even-not, odd-other, WalkedTo, going_start, going-pause, going_end, going-none, going_on}
+use Rattle.calendar_work.proofs.work_end.Given as goal
+
+abbrev pub invariant-loop-k : goal.invariant-loop-k
+invariant-loop-k l = (l.len ≤ 4096) × (l.len ≤ length l.edges) × (l.at < 2 ^ 63) × (l.left < 2 ^ 63) × Edges l.edges l.len × WalkedTo l.edges l.len l.start l.work l.k l.at l.left
+
+abbrev pub decreases-loop-k : goal.decreases-loop-k
+decreases-loop-k l = l.len - l.k
