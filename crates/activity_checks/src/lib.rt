@@ -1,4 +1,6 @@
 // The checks of an order (01, the replies of 'Placing': 15, 5, 1, 6, 3, 8).
+#![tactic(auto)]
+
 use activity::Activity;
 use calendar::limits::LAST_INSTANT;
 

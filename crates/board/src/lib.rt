@@ -1,6 +1,8 @@
 // A board: resources in board order with their companions, diaries, transition matrices and last categories, and the transport between
 // them (models/resource.rs, models/constraint.rs; 01, setups and transport, and the board of 'Placing'). Its rules are checked by the
 // crate `board_rules`.
+#![tactic(auto)]
+
 ghost use Rattle.std.specs.Prelude.{◌≡◌};
 ghost use Rattle.board.specs.Valid.{duration_right, entry_right};
 ghost use Rattle.board.specs.Resources.{blank_matrix, blank_resource, with_last};

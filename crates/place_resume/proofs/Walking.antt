@@ -24,7 +24,7 @@ use Rattle.calendar_joint.proofs.Ending.{layout-end}
 use Rattle.timeline.specs.declared.ResourceTimeline.{ResourceTimeline}
 use Rattle.timeline.specs.Valid.{valid}
 use Rattle.timeline.specs.Earliest.{free_on}
-use Rattle.timeline.specs.Laws.Rules.{rules}
+use Rattle.timeline.specs.Laws.Rules.{rules_of}
 use Rattle.timeline.specs.Laws.Searching.{Sought, sought-start}
 use Rattle.timeline.specs.Steps.{Still}
 use Rattle.scheduler.specs.Alone.{Share}
@@ -108,7 +108,7 @@ module _ (xs : List Share) (n work from : ℕ) (stops : List ℕ) where
   module _ (sound : Sound xs) (long : length xs ≡ n) where
     -- all calendars keep the rules, and are those of all diaries
     pub gathers-ruled : (cs : List Calendar) (here : ℕ) (free : Bool) (next i : ℕ) → Gathers cs here free next i → n ≤ i → Ruled cs n
-    gathers-ruled cs here free next i g l k h = ap calendar.valid (g.cells k (omega arith)) ∙ (rules _ (each_at (λ x. valid x.timeline ≡ true) no_share xs sound k (omega (arith, long)))).calendar
+    gathers-ruled cs here free next i g l k h = ap calendar.valid (g.cells k (omega arith)) ∙ (rules_of _ (each_at (λ x. valid x.timeline ≡ true) no_share xs sound k (omega (arith, long)))).calendar
 
     gathers-all : (cs : List Calendar) (here : ℕ) (free : Bool) (next i : ℕ) → Gathers cs here free next i → n ≤ i → n ≤ length cs → take n cs ≡ map calendar_of xs
     gathers-all cs here free next i g l m = cells-map calendar_of no_share no_calendar n xs cs (omega (arith, long)) m (λ k h. g.cells k (omega arith)) ∙ ap (map calendar_of) (take_all n xs (omega (arith, long)))

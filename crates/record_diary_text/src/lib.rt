@@ -1,4 +1,6 @@
 // What a record of a diary's stream prints, and its bytes (01, 'Program slot').
+#![tactic(auto)]
+
 mod lines;
 
 pub use lines::text;

@@ -15,7 +15,7 @@ use Rattle.timeline.specs.declared.ResourceTimeline.{ResourceTimeline}
 use Rattle.timeline.specs.Valid.{valid}
 use Rattle.timeline.specs.Earliest.{fits_at, last_event, earliest_fit}
 use Rattle.timeline.specs.Ask.{AskReply, fit, none, refused, unbroken, ended, ask_refusal, asked}
-use Rattle.timeline.specs.Laws.Rules.{rules}
+use Rattle.timeline.specs.Laws.Rules.{rules_of}
 use Rattle.timeline.specs.Laws.Stepping.{last-range}
 
 -- the replies of an ask
@@ -52,7 +52,7 @@ lawful from span u z =
 -- a start lies at or before the later of the asked instant and the last event
 pub fit-range : (t : ResourceTimeline) → valid t ≡ true → (from span u x : ℕ) → from ≤ last_asked → earliest_fit t from span u ≡ at x → x ≤ last_asked
 unfolding earliest_fit
-fit-range t v from span u x a e = omega (arith, (least-found (fits_at t span u) from (suc (last_event t - from)) x e).1, last-range t (rules t v))
+fit-range t v from span u x a e = omega (arith, (least-found (fits_at t span u) from (suc (last_event t - from)) x e).1, last-range t (rules_of t v))
 
 pub unbroken-at : (span s : ℕ) (f : Found) → f ≡ at s → fit s (s + span) ≡ unbroken span f
 unfolding unbroken

@@ -16,7 +16,7 @@ use Rattle.timeline.specs.Valid.{valid}
 use Rattle.timeline.specs.Free.{free}
 use Rattle.timeline.specs.Earliest.{fits_at, last_event, earliest_fit}
 use Rattle.timeline_candidates.specs.Steps.{StartCandidates}
-use Rattle.timeline.specs.Laws.Rules.{rules}
+use Rattle.timeline.specs.Laws.Rules.{rules_of}
 use Rattle.timeline.specs.Laws.Loading.{free-few, free-room}
 use Rattle.timeline.specs.Laws.Searching.{Sought, sought-found, sought-none}
 use Rattle.timeline.specs.Laws.Stepping.{fits-at-back, last-still, last-range}
@@ -25,11 +25,11 @@ use Rattle.timeline_resume.proofs.Trying.{passed, all-passed}
 module _ (t : ResourceTimeline) (v : valid t ≡ true) (from span u : ℕ) where
   pub fit_found : (x : ℕ) → Sought (fits_at t span u) from x → fits_at t span u x ≡ true → earliest_fit t from span u ≡ at x
   unfolding earliest_fit
-  fit_found x s h = sought-found (fits_at t span u) from (last_event t) (λ y l. fits-at-back t span u y (last-still t (rules t v) y l)) x s h
+  fit_found x s h = sought-found (fits_at t span u) from (last_event t) (λ y l. fits-at-back t span u y (last-still t (rules_of t v) y l)) x s h
 
   fit_none : (x : ℕ) → from ≤ last_asked → never ≤ x → Sought (fits_at t span u) from x → earliest_fit t from span u ≡ nothing
   unfolding earliest_fit
-  fit_none x a b s = sought-none (fits_at t span u) from (last_event t) x s (omega (arith, last-range t (rules t v)))
+  fit_none x a b s = sought-none (fits_at t span u) from (last_event t) x s (omega (arith, last-range t (rules_of t v)))
 
 -- units above the capacity are never free
 above-no : (t : ResourceTimeline) (span u y : ℕ) → t.capacity < u → fits_at t span u y ≡ false

@@ -18,7 +18,7 @@ use Rattle.cells.specs.Cells.{before}
 use Rattle.timeline.specs.Valid.{valid}
 use Rattle.timeline.specs.Free.{on_at, tally, load}
 use Rattle.timeline.specs.Earliest.{free_on, fits_at, earliest_fit}
-use Rattle.timeline.specs.Laws.Rules.{DiaryRules, rules}
+use Rattle.timeline.specs.Laws.Rules.{DiaryRules, rules_of}
 use Rattle.timeline.specs.Laws.Rows.{none, count, booking-at}
 use Rattle.timeline.specs.Laws.Loading.{On, on, is-on, During, free-yes, free-no}
 use Rattle.timeline.specs.Laws.Searching.{Sought}
@@ -48,7 +48,7 @@ module _ (t : ResourceTimeline) (p : Plain t) (d : ℕ) where
   unfolding fits_at
   shut y k l a z =
       ⊎_elim
-      (λ (h : y < get_or t.starts k 0). at-instant (get_or t.starts k 0) (inr (omega arith, a)) (record { starts = a; ends = z; from = omega arith; to = ((rules t p.keeps).filled k l).order }))
+      (λ (h : y < get_or t.starts k 0). at-instant (get_or t.starts k 0) (inr (omega arith, a)) (record { starts = a; ends = z; from = omega arith; to = ((rules_of t p.keeps).filled k l).order }))
       (λ (h : get_or t.starts k 0 ≤ y). at-instant y (inl refl) (record { starts = a; ends = z; from = h; to = z }))
       (lt-or-ge y (get_or t.starts k 0))
     where
@@ -57,7 +57,7 @@ module _ (t : ResourceTimeline) (p : Plain t) (d : ℕ) where
           let r = booking-at t k l in
           let g = load-ge (bookings t) y (y + d) q k (rw (count t) l) (rw r o) in
           let u : get_or t.units k 0 ≤ load (bookings t) y (y + d) q = rw r at g in
-          rw (free-no t.capacity (bookings t) 1 y (y + d) q w (omega (arith, p.one, ((rules t p.keeps).filled k l).some))) (and-false (fits t.calendar y (y + d)))
+          rw (free-no t.capacity (bookings t) 1 y (y + d) q w (omega (arith, p.one, ((rules_of t p.keeps).filled k l).some))) (and-false (fits t.calendar y (y + d)))
 
   -- none in the way
   clear : (y : ℕ) → ((k : ℕ) → k < t.len → (get_or t.ends k 0 ≤ y) ⊎ (y + d ≤ get_or t.starts k 0)) → fits_at t d 1 y ≡ true
@@ -104,18 +104,18 @@ walk_start t p from d zero x h l f e = record {
   sought = record { low = omega arith; none = λ y a z. absurd (omega arith) };
 }
 walk_start t p from d (suc j) x h l f e =
-    let w = latest-one t (rules t p.keeps) j l in
-    let c = columns t (rules t p.keeps) in
+    let w = latest-one t (rules_of t p.keeps) j l in
+    let c = columns t (rules_of t p.keeps) in
     let g : w.0 < t.len = omega (arith, w.1) in
     record {
-      high = omega (arith, w.2, ((rules t p.keeps).filled w.0 g).range);
+      high = omega (arith, w.2, ((rules_of t p.keeps).filled w.0 g).range);
       past = λ k m. omega (arith, c.ends k (omega arith), c.latest k j (omega arith) l);
       sought = record { low = omega arith; none = λ y a z. shut t p d y w.0 g (omega (arith, f w.0 (omega (arith, w.1)))) (omega (arith, w.2)) };
     }
 
 pub walk_step : (t : ResourceTimeline) → Plain t → (from d i x x' : ℕ) → Walk t from d i x → i < t.len → get_or t.starts i 0 < x + d → x' ≡ max x (get_or t.ends i 0) → Walk t from d (i + 1) x'
 walk_step t p from d i x x' w l g e = record {
-  high = omega (arith, w.high, ((rules t p.keeps).filled i l).range);
+  high = omega (arith, w.high, ((rules_of t p.keeps).filled i l).range);
   past = below_more _ i (λ k m. omega (arith, w.past k m)) (omega arith);
   sought = record {
     low = omega (arith, w.sought.low);
@@ -138,7 +138,7 @@ walk-stop t p from d i x w l g =
     (λ k h.
     ⊎_elim
     (λ (m : k < i). inl (w.past k m))
-    (λ (m : i ≤ k). inr (omega (arith, (columns t (rules t p.keeps)).starts i k m h)))
+    (λ (m : i ≤ k). inr (omega (arith, (columns t (rules_of t p.keeps)).starts i k m h)))
     (lt-or-ge k i))))
 
 pub plain : (t : ResourceTimeline) → valid t ≡ true → (t.capacity ≡ 1) × (t.calendar.windows.len ≡ 0) × (t.calendar.blocks.len ≡ 0) → Plain t

@@ -1,5 +1,7 @@
 // What is free on a diary (`capacity_ok`, `is_free` in scheduler/timeline.rs; 01, 'Diary'). The diary is valid, and nothing is checked
 // again.
+#![tactic(auto)]
+
 ghost use Rattle.std.specs.Prelude.{◌≡◌, true, ◌≤◌};
 ghost use Rattle.timeline.specs.Bookings.{bookings_to};
 ghost use Rattle.timeline.specs.Valid.{valid};

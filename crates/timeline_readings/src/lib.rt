@@ -1,4 +1,6 @@
 // What can be read of a diary (`capacity`, `booked_ms`, `latest_end` in scheduler/timeline.rs).
+#![tactic(auto)]
+
 ghost use Rattle.std.specs.Prelude.{◌≡◌};
 ghost use Rattle.timeline_readings.specs.Reading.{read_of, read, capacity_read, booked_read, latest_read};
 

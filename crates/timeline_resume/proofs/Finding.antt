@@ -19,7 +19,7 @@ use Rattle.timeline.specs.Free.{free}
 use Rattle.timeline.specs.Earliest.{free_to, starts_at, last_event, earliest_resumable}
 use Rattle.timeline.specs.Ask.{ended, resumed}
 use Rattle.timeline_candidates.specs.Steps.{StartCandidates}
-use Rattle.timeline.specs.Laws.Rules.{rules}
+use Rattle.timeline.specs.Laws.Rules.{rules_of}
 use Rattle.timeline.specs.Laws.Loading.{free-few, free-room}
 use Rattle.timeline.specs.Laws.Searching.{Sought, sought-found, sought-none}
 use Rattle.timeline.specs.Laws.Stepping.{starts-at-back, last-still, last-range, joint-one}
@@ -28,11 +28,11 @@ use Rattle.timeline_resume.proofs.Trying.{passed, all-passed}
 module _ (t : ResourceTimeline) (v : valid t ≡ true) (from span u : ℕ) where
   start-found : (x : ℕ) → Sought (starts_at t span u) from x → starts_at t span u x ≡ true → earliest_resumable t from span u ≡ at x
   unfolding earliest_resumable
-  start-found x s h = sought-found (starts_at t span u) from (last_event t) (λ y l. starts-at-back t span u y (last-still t (rules t v) y l)) x s h
+  start-found x s h = sought-found (starts_at t span u) from (last_event t) (λ y l. starts-at-back t span u y (last-still t (rules_of t v) y l)) x s h
 
   start_none : (x : ℕ) → from ≤ last_asked → never ≤ x → Sought (starts_at t span u) from x → earliest_resumable t from span u ≡ nothing
   unfolding earliest_resumable
-  start_none x a b s = sought-none (starts_at t span u) from (last_event t) x s (omega (arith, last-range t (rules t v)))
+  start_none x a b s = sought-none (starts_at t span u) from (last_event t) x s (omega (arith, last-range t (rules_of t v)))
 
 -- units above the capacity are never free
 no-start-above : (t : ResourceTimeline) (u s : ℕ) (f : Found) → t.capacity < u → free_to t u s f ≡ false

@@ -12,7 +12,7 @@ use Rattle.timeline.specs.declared.ResourceTimeline.{ResourceTimeline}
 use Rattle.timeline.specs.Valid.{valid}
 use Rattle.timeline.specs.Steps.{Next, Still}
 use Rattle.timeline_candidates.specs.Steps.{Listed, Event, StartCandidates}
-use Rattle.timeline.specs.Laws.Rules.{DiaryRules, rules}
+use Rattle.timeline.specs.Laws.Rules.{DiaryRules, rules_of}
 use Rattle.timeline.specs.Laws.Searching.{Sought, sought-start, sought-on}
 use Rattle.timeline_candidates.proofs.Listing.{first-is, next-listed, next-none}
 use Rattle.timeline.specs.Laws.Stepping.{next-still}
@@ -35,7 +35,7 @@ module _ (t : ResourceTimeline) (v : valid t ≡ true) (from : ℕ) (ws xs : Lis
   candidate-range i l =
       ⊎_elim
       (λ (e : get_or xs i 0 ≡ from). omega arith)
-      (λ (w : (from < get_or xs i 0) × Event t (get_or xs i 0)). omega (arith, event-range t (rules t v) (get_or xs i 0) w.1))
+      (λ (w : (from < get_or xs i 0) × Event t (get_or xs i 0)). omega (arith, event-range t (rules_of t v) (get_or xs i 0) w.1))
       (c.only (get_or xs i 0) (i, l, refl))
 
   -- where each candidate before the i-th fails, so does each instant before it

@@ -1,5 +1,7 @@
 // Windows and blocks of a diary's calendar, one at a time (01, the replies of 'Window or block'). A run of them is added by
 // `timeline_loader`.
+#![tactic(auto)]
+
 ghost use Rattle.std.specs.Prelude.{◌≡◌, true};
 ghost use Rattle.calendar.specs.Valid as calendar;
 ghost use Rattle.calendar.specs.Add.{add_window, add_block};

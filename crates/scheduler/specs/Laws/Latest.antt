@@ -8,7 +8,7 @@ use Rattle.cells.specs.Laws.Basics.{and_split, and-join, no_way, not-both, lt-or
 use Rattle.calendar.specs.Search.{Found, nothing, at, Earliest, Answers}
 use Rattle.timeline.specs.Valid.{valid}
 use Rattle.timeline.specs.Earliest.{last_event}
-use Rattle.timeline.specs.Laws.Rules.{rules}
+use Rattle.timeline.specs.Laws.Rules.{rules_of}
 use Rattle.timeline.specs.Laws.Searching.{Sought, found_within}
 use Rattle.timeline.specs.Laws.Stepping.{last-still, last-range}
 use Rattle.calendar.specs.Laws.Searching.{greatest-most}
@@ -30,7 +30,7 @@ start-answers false span x t v = fit-means x.timeline v t span x.units
 -- a least start lies at the instant asked from, or by 2^42
 pub start-range : (resumable : Bool) (span : ℕ) (x : Share) (t s : ℕ) → valid x.timeline ≡ true → Earliest (can_start resumable span x) t s → s ≤ max t last_instant
 start-range resumable span x t s v w =
-    let r = rules x.timeline v in
+    let r = rules_of x.timeline v in
     let l = found_within (can_start resumable span x) t (last_event x.timeline) (λ y m. can-back resumable span x y (last-still x.timeline r y m)) s w in
     omega (arith, last-range x.timeline r)
 
@@ -98,4 +98,4 @@ sought-never P from t s f y a = ⊎_elim (λ (m : y < t). s.none y a m) (λ (m :
 -- on diaries that keep the rules nothing changes after 2^42
 pub last-small : (xs : List Share) → Sound xs → last_of xs ≤ last_instant
 unfolding last_of
-last-small xs s = greatest-most (λ (x : Share). last_event x.timeline) no_share xs last_instant (λ k l. last-range _ (rules _ (each_at (λ x. valid x.timeline ≡ true) no_share xs s k l)))
+last-small xs s = greatest-most (λ (x : Share). last_event x.timeline) no_share xs last_instant (λ k l. last-range _ (rules_of _ (each_at (λ x. valid x.timeline ≡ true) no_share xs s k l)))

@@ -5,7 +5,7 @@ use Rattle.cells.specs.Every.{every, Each, each_end, each_on}
 use Rattle.cells.specs.Laws.Basics.{and_split, and-join}
 use Rattle.calendar.specs.Search.{Found, greatest_of, Answers}
 use Rattle.timeline.specs.Valid.{valid}
-use Rattle.timeline.specs.Laws.Rules.{rules}
+use Rattle.timeline.specs.Laws.Rules.{rules_of}
 use Rattle.timeline.specs.Steps.{Still}
 use Rattle.timeline.specs.Laws.Stepping.{fits-at-back, starts-at-back, last-still}
 use Rattle.calendar.specs.Laws.Searching.{answers-same, least-answers}
@@ -34,7 +34,7 @@ all_back resumable span (x ∷ xs) y (each_on s c) h =
 pub last-calm : (xs : List Share) → Sound xs → (y : ℕ) → last_of xs ≤ y → Calm (suc y) xs
 unfolding last_of greatest_of
 last-calm [] each_end y l = each_end
-last-calm (x ∷ xs) (each_on v s) y l = each_on (last-still x.timeline (rules x.timeline v) y (omega arith)) (last-calm xs s y (omega arith))
+last-calm (x ∷ xs) (each_on v s) y l = each_on (last-still x.timeline (rules_of x.timeline v) y (omega arith)) (last-calm xs s y (omega arith))
 
 -- the least start on all of them, and nothing only if there is none at all
 pub together-answers : (resumable : Bool) (span : ℕ) (xs : List Share) (from : ℕ) → Sound xs → Answers (all_start resumable span xs) from (earliest_of resumable span xs from)

@@ -12,7 +12,7 @@ use Rattle.timeline.specs.Bookings.{Booking, bookings_to, bookings, total}
 use Rattle.cells.specs.Cells.{before}
 use Rattle.timeline.specs.Valid.{contents_right, valid}
 use Rattle.timeline.specs.Diary.{insert_by_start, insert_booking, cells, latest_ends, diary, blank_diary, with_bookings}
-use Rattle.timeline.specs.Laws.Rules.{CellFacts, rules, ruled}
+use Rattle.timeline.specs.Laws.Rules.{CellFacts, rules_of, ruled}
 use Rattle.timeline.specs.Laws.Inserting.{pad-at, length_inserted}
 use Rattle.timeline.specs.Laws.Rows.{none, count, booking-at, latest-length, Long, PutIn, put-made}
 
@@ -150,12 +150,12 @@ bookings-order t v = by_index (bookings t) 0 one
     one : (i : ℕ) → i < length (bookings t) → InRange (before_from 0 (starts (bookings t)) i) (get_or (bookings t) i none)
     one zero l =
         let h : 0 < t.len = rw (count t) at l in
-        let f = (rules t v).filled 0 h in
+        let f = (rules_of t v).filled 0 h in
         rw (booking-at t 0 h) (record { order = f.order; range = f.range; some = f.some; few = f.few; sorted = omega arith })
     one (suc i) l =
         let h : suc i < t.len = rw (count t) at l in
         let k : i < t.len = omega arith in
-        let f = (rules t v).filled (suc i) h in
+        let f = (rules_of t v).filled (suc i) h in
         let e : get_or (starts (bookings t)) i 0 ≡ get_or t.starts i 0 = get_or-map (λ b. b.start) (bookings t) i none ∙ ap (λ (b : Booking). b.start) (booking-at t i k) in
         rw (booking-at t (suc i) h, e) (record { order = f.order; range = f.range; some = f.some; few = f.few; sorted = f.sorted })
 
@@ -163,12 +163,12 @@ bookings-order t v = by_index (bookings t) 0 one
 pub booked-keeps : (t : ResourceTimeline) (b : Booking) → valid t ≡ true → t.len < 64 → InRange 0 b
     → valid (with_bookings t (insert_booking b (bookings t))) ≡ true
 booked-keeps t b v l r =
-    let k = rules t v in
+    let k = rules_of t v in
     diary-keeps t.capacity t.calendar (insert_booking b (bookings t)) k.calendar k.some k.few (omega (arith, length_inserted (λ x. x.start) b (bookings t), count t)) (insert-order 0 b (bookings t) r (bookings-order t v))
 
 -- a diary with one booking put in is the one with that booking, and keeps the rules
 pub put_is : (t r : ResourceTimeline) (b : Booking) (at : ℕ) → PutIn t r b at → Long t → Long r → valid t ≡ true → t.len < 64 → InRange 0 b
     → (r ≡ with_bookings t (insert_booking b (bookings t))) × (valid r ≡ true)
 put_is t r b at p g l v room k =
-    let q = put-made t r b at p g l (rules t v) room in
+    let q = put-made t r b at p g l (rules_of t v) room in
     (q, ap valid q ∙ booked-keeps t b v room k)

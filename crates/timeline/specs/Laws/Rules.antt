@@ -92,9 +92,9 @@ filled-cells t f i l = cell-facts _ _ _ _ _ _ (from_at (filled_at t) 0 t.len f i
 empty-cells : (t : ResourceTimeline) → empty_from t t.len (64 - t.len) ≡ true → (i : ℕ) → t.len ≤ i → i < 64 → EmptyOf t i
 empty-cells t f i g l = empty-facts _ _ _ _ (from_at (empty_at t) t.len (64 - t.len) f i g (omega arith))
 
-pub rules : (t : ResourceTimeline) → valid t ≡ true → DiaryRules t
+pub rules_of : (t : ResourceTimeline) → valid t ≡ true → DiaryRules t
 unfolding valid contents_right
-rules t h =
+rules_of t h =
     let h0 = and_split _ _ h in
     let h1 = and_split _ _ h0.1 in
     let h2 = and_split _ _ h1.1 in
@@ -123,7 +123,7 @@ ruled t r =
 pub recalendared : (t : ResourceTimeline) (c : Calendar) → valid t ≡ true → calendar.valid c ≡ true → valid (with_calendar t c) ≡ true
 unfolding with_calendar
 recalendared t c h k =
-    let r = rules t h in
+    let r = rules_of t h in
     ruled _ (record { calendar = k; some = r.some; few = r.few; room = r.room; filled = r.filled; empty = r.empty; sum = r.sum })
 
 -- a window or a block on the calendar of a diary that keeps the rules

@@ -15,7 +15,7 @@ use Rattle.timeline.specs.Bookings.{Booking, booking, latest_end, same, times, W
 use Rattle.timeline.specs.Valid.{valid}
 use Rattle.timeline.specs.Free.{on_at, tally, load, free}
 use Rattle.timeline.specs.Earliest.{fits_at, free_to, starts_at, last_event, earliest_fit, earliest_resumable}
-use Rattle.timeline.specs.Laws.Rules.{rules}
+use Rattle.timeline.specs.Laws.Rules.{rules_of}
 use Rattle.timeline.specs.Laws.Loading.{free-facts, free-yes}
 use Rattle.timeline.specs.Laws.Stepping.{fits-at-back, starts-at-back, last-still, joint-one}
 
@@ -23,12 +23,12 @@ module _ (t : ResourceTimeline) (v : valid t ≡ true) (from span u : ℕ) where
   -- `earliest_fit` answers with the least start at which the span fits, and with nothing only if it fits at no instant from `from` on
   pub fit-means : Answers (fits_at t span u) from (earliest_fit t from span u)
   unfolding earliest_fit
-  fit-means = least-answers (fits_at t span u) from (last_event t) (λ y l. fits-at-back t span u y (last-still t (rules t v) y l))
+  fit-means = least-answers (fits_at t span u) from (last_event t) (λ y l. fits-at-back t span u y (last-still t (rules_of t v) y l))
 
   -- and `earliest_resumable` likewise with the least start at which the work can start
   pub resumable-means : Answers (starts_at t span u) from (earliest_resumable t from span u)
   unfolding earliest_resumable
-  resumable-means = least-answers (starts_at t span u) from (last_event t) (λ y l. starts-at-back t span u y (last-still t (rules t v) y l))
+  resumable-means = least-answers (starts_at t span u) from (last_event t) (λ y l. starts-at-back t span u y (last-still t (rules_of t v) y l))
 
 -- without a calendar work runs straight through ..
 pub straight : (c : Calendar) (s w : ℕ) → c.windows.len ≡ 0 → c.blocks.len ≡ 0 → joint_end (c ∷ []) s w ≡ at (s + w)

@@ -5,7 +5,7 @@ use mathlib.Core.Logic.{⊎_elim}
 use Prim.Native.Nat.{◌-◌, ◌≤◌}
 use native.Mathlib.Omega.{arith}
 use lib.ListN.{length}
-use Rattle.timeline.specs.Laws.Rules.{rules}
+use Rattle.timeline.specs.Laws.Rules.{rules_of}
 use Rattle.timeline.specs.Laws.Columns.{columns}
 use Rattle.cells.specs.Laws.Cells.{before-pos, before-zero}
 use Rattle.timeline_fit.proofs.Gaps.{Walk, walk_start, walk_step, walk_end, walk-stop, plain}
@@ -23,7 +23,7 @@ slice-aggregate-cells-before c = search rules
 
 cells-before-requires : tie.Need-cells-before-requires invariant-loop decreases-loop
 cells-before-requires c κs =
-    let r = rules _ c.before.before.requires.0.0 in
+    let r = rules_of _ c.before.before.requires.0.0 in
     let l : length c.before.before.args.t1.starts ≡ 64 = search rules in
     (omega (arith, r.room), omega (arith, r.room), (columns _ r).starts)
 
@@ -31,10 +31,10 @@ sub-later : tie.Need-overflow-sub-later invariant-loop decreases-loop
 sub-later c = search rules
 
 mul-later : tie.Need-overflow-mul-later invariant-loop decreases-loop
-mul-later c = omega (arith, (rules _ c.before.before.before.before.requires.0.0).room)
+mul-later c = omega (arith, (rules_of _ c.before.before.before.before.requires.0.0).room)
 
 element-copy-out-later : tie.Need-element-copy-out-later invariant-loop decreases-loop
-element-copy-out-later c = omega (arith, (rules _ c.before.before.before.before.requires.0.0).room)
+element-copy-out-later c = omega (arith, (rules_of _ c.before.before.before.before.requires.0.0).room)
 
 later-requires : tie.Need-later-requires invariant-loop decreases-loop
 later-requires c κs = search rules
@@ -46,7 +46,7 @@ loop-holds c =
     let n = c.before.cells-before.ensures in
     let q = c.before.cells-before.result in (
       refl,
-      (rules t d.requires.0.0).room,
+      (rules_of t d.requires.0.0).room,
       n.few,
       walk_start _ (plain t d.requires.0.0 d.requires.1) _ _ _ _ d.requires.0.1 n.few n.low
           (⊎_elim (λ w. omega (arith, w.2.ensures, w.3, before-pos t.latest q w.0.taken)) (λ w. omega (arith, before-zero t.latest q w.0.left)) c.if1.branch),

@@ -9,7 +9,7 @@ use native.Mathlib.Omega.{arith}
 use lib.ListN.{length, get_or}
 use Rattle.timeline.specs.Bookings.{bookings_to}
 use Rattle.timeline_fit.specs.Steps.{start_of}
-use Rattle.timeline.specs.Laws.Rules.{rules}
+use Rattle.timeline.specs.Laws.Rules.{rules_of}
 use Rattle.timeline.specs.Laws.Columns.{columns}
 use Rattle.timeline_fit.proofs.Fitting.{fits_over, over_yes, over-shut, over-full, fit-listed, fit-unlisted}
 use Rattle.timeline_resume.proofs.Trying.{candidate-range}
@@ -51,7 +51,7 @@ add-interval-fits c =
     search rules
 
 interval-fits-requires : tie.Need-interval-fits-requires invariant-loop decreases-loop
-interval-fits-requires c κs = (rules _ c.before.before.before.before.before.before.before.before.before.before.before.requires.0).calendar
+interval-fits-requires c κs = (rules_of _ c.before.before.before.before.before.before.before.before.before.before.before.requires.0).calendar
 
 add-free-over : tie.Need-overflow-add-free-over invariant-loop decreases-loop
 add-free-over c =
@@ -60,7 +60,7 @@ add-free-over c =
     search rules
 
 free-over-requires : tie.Need-free-over-requires invariant-loop decreases-loop
-free-over-requires c κs = columns _ (rules _ c.before.before.before.before.before.before.before.before.before.before.before.before.before.before.before.before.before.requires.0)
+free-over-requires c κs = columns _ (rules_of _ c.before.before.before.before.before.before.before.before.before.before.before.before.before.before.before.before.before.requires.0)
 
 returns : tie.Need-returns invariant-loop decreases-loop
 unfolding start_of

@@ -9,7 +9,7 @@ use native.Mathlib.Omega.{arith}
 use lib.ListN.{length, get_or}
 use Rattle.calendar_work.specs.Layout.{found_of}
 use Rattle.timeline.specs.Bookings.{bookings_to}
-use Rattle.timeline.specs.Laws.Rules.{rules}
+use Rattle.timeline.specs.Laws.Rules.{rules_of}
 use Rattle.timeline.specs.Laws.Columns.{columns}
 use Rattle.timeline_resume.proofs.Finding.{free_until, end_over, until_end, until_none, start-listed, start-unlisted}
 use Rattle.timeline_resume.proofs.Trying.{candidate-range}
@@ -34,7 +34,7 @@ slice-aggregate-working-time : tie.Need-slice-aggregate-working-time invariant-l
 slice-aggregate-working-time c = search rules
 
 working-time-requires : tie.Need-working-time-requires invariant-loop decreases-loop
-working-time-requires c κs = ((rules _ c.before.before.before.before.before.before.requires.0).calendar, omega arith)
+working-time-requires c κs = ((rules_of _ c.before.before.before.before.before.before.requires.0).calendar, omega arith)
 
 slice-aggregate-start-candidates : tie.Need-slice-aggregate-start-candidates invariant-loop decreases-loop
 slice-aggregate-start-candidates c = search rules
@@ -66,7 +66,7 @@ enum-known-end : tie.Need-enum-known-end invariant-loop decreases-loop
 enum-known-end c = search rules
 
 free-over-requires : tie.Need-free-over-requires invariant-loop decreases-loop
-free-over-requires c κs = columns _ (rules _ c.before.before.before.before.before.before.before.before.before.before.before.before.before.before.before.before.before.before.before.before.before.before.requires.0)
+free-over-requires c κs = columns _ (rules_of _ c.before.before.before.before.before.before.before.before.before.before.before.before.before.before.before.before.before.before.before.before.before.before.requires.0)
 
 returns : tie.Need-returns invariant-loop decreases-loop
 unfolding found_of

@@ -1,0 +1,23 @@
+-- `timeline_free::free_over` meets its contract.
+use mathlib.Core.Path.{sym}
+use native.Mathlib.Omega.{arith}
+use Rattle.timeline.specs.Laws.Columns.{from_cell}
+use Rattle.timeline.specs.Laws.Loading.{free-over}
+use Rattle.timeline_free.proofs.free_over.Goals as goal
+
+pub cells_before-first-requires : goal.cells_before-first-requires
+cells_before-first-requires c =
+    let q = c.requires in
+    (omega arith, omega arith, q.latest)
+
+pub units_over-requires : goal.units_over-requires
+units_over-requires c = from_cell _ _ _ _ _ _ _ c.requires c.cells_before-first.ensures
+
+pub returns-then-units_over-room : goal.returns-then-units_over-room
+returns-then-units_over-room c = sym (free-over c.args.room _ 0 _ _ c.args.room (omega arith) (omega (arith, c.units_over.ensures, c.if-units_over-room.true)))
+
+pub has_room-requires : goal.has_room-requires
+has_room-requires c = from_cell _ _ _ _ _ _ _ c.requires c.cells_before-first.ensures
+
+pub returns : goal.returns
+returns c = c.has_room.ensures
