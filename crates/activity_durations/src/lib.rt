@@ -1,5 +1,7 @@
 // The durations of an order over the resources held, for a caller that has checked nothing (duration_on in models/activity.rs; 01,
 // durations and speeds).
+#![tactic(auto)]
+
 ghost use Rattle.std.specs.Prelude.{◌≡◌};
 ghost use Rattle.activity.specs.Check.{held_right, reply_of, duration_reply};
 

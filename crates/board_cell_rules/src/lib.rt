@@ -1,4 +1,6 @@
 // The rules of one resource of a board, and of a cell past the length (01, 'Placing', the board's paragraph, and 'Replies': 15).
+#![tactic(auto)]
+
 ghost use Rattle.std.specs.Prelude.{◌≡◌, cond, get_or, pos};
 ghost use Rattle.cells.specs.Every.{every_from};
 ghost use Rattle.board.specs.Valid.{is_zero, entry_right, own_right, entry_cell, matrix_right, companion_cell, companions_right, last_right};

@@ -1,5 +1,7 @@
 // Setups by a matrix, and transport (01, 'Durations, setups, transport'; `setup_ms` in models/constraint.rs, `transport_between` in
 // models/resource.rs). It is for the crates above: nothing is checked again.
+#![tactic(auto)]
+
 ghost use Rattle.std.specs.Prelude.{◌≡◌, true, ◌<◌};
 ghost use Rattle.board.specs.Setups.{entry_or, setup_ms};
 ghost use Rattle.board.specs.Valid.{last_right};

@@ -1,5 +1,7 @@
 // Placing and committing (scheduler/simple.rs; 01, 'Placing'): the definitions, what they amount to, and demand 3 stand in specs/
 // (docs/READING.md leads through them). Here is what the crates that run them share.
+#![tactic(auto)]
+
 ghost use Rattle.std.specs.Prelude.{◌≡◌};
 ghost use Rattle.scheduler.specs.Entries.{held_entry, companion_entry, no_entry};
 

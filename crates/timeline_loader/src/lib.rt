@@ -1,5 +1,7 @@
 // A lent run of window records, added to a calendar or to a diary (models/calendar.rs, TimeWindow; 01, the replies of 'Window or
 // block').
+#![tactic(auto)]
+
 ghost use Rattle.std.specs.Prelude.{◌≡◌};
 ghost use Rattle.timeline.specs.Book.{calendar_reply};
 ghost use Rattle.timeline_loader.specs.Run.{add_one, add_run, add_timeline_run};

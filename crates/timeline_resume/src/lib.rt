@@ -2,6 +2,8 @@
 // the diary is valid, and nothing is checked again.
 // Searched are the start candidates in rising order, each with the end of the work over the diary's working time, which is laid out once.
 // Each is tried once, so it ends: at most 129 candidates.
+#![tactic(auto)]
+
 ghost use Rattle.std.specs.Prelude.{◌≡◌, true, ◌≤◌};
 ghost use Rattle.calendar.specs.Limits.{last_asked, longest_span};
 ghost use Rattle.timeline.specs.Valid.{valid};
