@@ -8,7 +8,7 @@ use Rattle.board.specs.Places.{anywhere}
 use Rattle.calendar.specs.Laws.Sets.{bit-yes, bit-no}
 use Rattle.board.specs.Laws.Masks.{greatest-none, greatest-hit, greatest-miss}
 use Rattle.board_setups.proofs.transport_between.Goals as goal
-use Rattle.board_setups.proofs.transport_between.Goals.{then-origins-n-eq1, else-origins-n-eq1}
+use Rattle.board_setups.proofs.transport_between.Goals.{then-origins-n-eq1+then-ms-most, then-origins-n-eq1+else-ms-most, else-origins-n-eq1}
 
 pub loop-n-init : goal.loop-n-init
 loop-n-init c = (refl, omega arith, sym (greatest-none _ _ _ _))
@@ -24,11 +24,9 @@ loop-n-preserved c =
       refl,
       omega arith,
       elim c.if-origins-n-eq1.branch [
-        | then-origins-n-eq1 w ↦ omega (arith, hit (bit-yes _ _ w.if-origins-n-eq1.true))
-        | else-origins-n-eq1 v ↦ ⊎_elim
-            (λ w. omega (arith, hit (bit-yes _ _ w.0.taken)))
-            (λ w. omega (arith, greatest-miss a.transport.now a.origins a.to n (bit-no _ _ w.0.left)))
-            v
+        | then-origins-n-eq1+then-ms-most w ↦ omega (arith, hit (bit-yes _ _ w.if-origins-n-eq1.true))
+        | then-origins-n-eq1+else-ms-most w ↦ omega (arith, hit (bit-yes _ _ w.if-origins-n-eq1.true))
+        | else-origins-n-eq1 w ↦ omega (arith, greatest-miss a.transport.now a.origins a.to n (bit-no _ _ w.if-origins-n-eq1.false))
       ],
     )
 

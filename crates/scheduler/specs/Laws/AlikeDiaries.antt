@@ -46,6 +46,8 @@ can-less false span x y s a h =
 
 pub all-less : (resumable : Bool) (span : ℕ) (xs ys : List Share) (s : ℕ) → Pairs AlikeShare xs ys → all_start resumable span ys s ≡ true → all_start resumable span xs s ≡ true
 unfolding all_start every
+all-less resumable span [] (y ∷ ys) s x4 h = elim x4 [ ]
+all-less resumable span (x ∷ xs) [] s x5 h = elim x5 [ ]
 all-less resumable span [] [] s pairs_end h = refl
 all-less resumable span (x ∷ xs) (y ∷ ys) s (pairs_on a p) h =
     let w = and_split (can_start resumable span y s) (all_start resumable span ys s) h in
@@ -53,6 +55,8 @@ all-less resumable span (x ∷ xs) (y ∷ ys) s (pairs_on a p) h =
 
 pub all-free-less : (xs ys : List Share) (s e : ℕ) → Pairs AlikeShare xs ys → all_free ys s e ≡ true → all_free xs s e ≡ true
 unfolding all_free every
+all-free-less [] (y ∷ ys) s e x4 h = elim x4 [ ]
+all-free-less (x ∷ xs) [] s e x5 h = elim x5 [ ]
 all-free-less [] [] s e pairs_end h = refl
 all-free-less (x ∷ xs) (y ∷ ys) s e (pairs_on a p) h =
     let w = and_split (free_on y.timeline y.units s e) (all_free ys s e) h in

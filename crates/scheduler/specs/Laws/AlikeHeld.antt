@@ -58,6 +58,8 @@ module _ (b c : Board) (k : Alike b c) (a : Activity) (ready : ℕ) where
   startable-sub : (q : ResourceRequirement) (t : ℕ) (rs ss : List Resource) → Pairs (Twin b c) rs ss
       → Sub Unclean TwinCandidate (startable b a ready q t rs) (startable c a ready q t ss)
   unfolding startable
+  startable-sub q t [] (s ∷ ss) x'' = elim x'' [ ]
+  startable-sub q t (r ∷ rs) [] x3 = elim x3 [ ]
   startable-sub q t [] [] pairs_end = sub_end
   startable-sub q t (r ∷ rs) (s ∷ ss) (pairs_on w p) = go (starts_there b a ready q r t) (starts_there c a ready q s t) refl refl (startable-sub q t rs ss p)
     where
@@ -70,6 +72,7 @@ module _ (b c : Board) (k : Alike b c) (a : Activity) (ready : ℕ) where
       go false false e f i = i
 
   sub-length : (xs ys : List Candidate) → Sub Unclean TwinCandidate xs ys → length ys ≤ length xs
+  sub-length [] (y ∷ ys) x'' = elim x'' [ ]
   sub-length [] [] sub_end = omega arith
   sub-length (x ∷ xs) (y ∷ ys) (sub_keep r s) = omega (arith, sub-length xs ys s)
   sub-length (x ∷ xs) ys (sub_drop d s) = omega (arith, sub-length xs ys s)
@@ -87,6 +90,8 @@ module _ (b c : Board) (k : Alike b c) (a : Activity) (ready : ℕ) where
       (enough-less qs t w.1)
 
   held-pairs : (q : ResourceRequirement) (xs ys : List Candidate) → Pairs TwinCandidate xs ys → Pairs TwinHeld (map (held_for q) xs) (map (held_for q) ys)
+  held-pairs q [] (y ∷ ys) x'' = elim x'' [ ]
+  held-pairs q (x ∷ xs) [] x4 = elim x4 [ ]
   held-pairs q [] [] pairs_end = pairs_end
   held-pairs q (x ∷ xs) (y ∷ ys) (pairs_on w p) = pairs_on (record { start_same = w.start_same; usage_same = refl; twin = w.twin }) (held-pairs q xs ys p)
 
@@ -112,11 +117,15 @@ module _ (b c : Board) (k : Alike b c) (a : Activity) (ready : ℕ) where
       )
 
   numbers-same : (hs ks : List Held) → Pairs TwinHeld hs ks → numbers_of hs ≡ numbers_of ks
+  numbers-same [] (j ∷ ks) x'' = elim x'' [ ]
+  numbers-same (h ∷ hs) [] x3 = elim x3 [ ]
   numbers-same [] [] pairs_end = refl
   numbers-same (h ∷ hs) (j ∷ ks) (pairs_on w p) = rw (w.twin.alike.number_same, numbers-same hs ks p) refl
 
   companions_same : (hs ks : List Held) → Pairs TwinHeld hs ks → all_companions hs ≡ all_companions ks
   unfolding all_companions
+  companions_same [] (j ∷ ks) x'' = elim x'' [ ]
+  companions_same (h ∷ hs) [] x3 = elim x3 [ ]
   companions_same [] [] pairs_end = refl
   companions_same (h ∷ hs) (j ∷ ks) (pairs_on w p) = rw (companions-twin b c k a h.resource j.resource w.twin, companions_same hs ks p) refl
 
@@ -128,6 +137,8 @@ module _ (b c : Board) (k : Alike b c) (a : Activity) (ready : ℕ) where
       λ i. held_entry (e i) (f i) (g i)
 
   held-entries-same : (setup : ℕ) (hs ks : List Held) → Pairs TwinHeld hs ks → held_entries a.category setup hs ≡ held_entries a.category setup ks
+  held-entries-same setup [] (j ∷ ks) x'' = elim x'' [ ]
+  held-entries-same setup (h ∷ hs) [] x3 = elim x3 [ ]
   held-entries-same setup [] [] pairs_end = refl
   held-entries-same setup (h ∷ hs) (j ∷ ks) (pairs_on w p) = rw (entry-same setup h j w, held-entries-same setup hs ks p) refl
 

@@ -287,7 +287,7 @@ pub room-passed : (b : Board) (ls : List Line) → board.valid b ≡ true → al
 room-passed b ls v e n o =
     ⊎_elim
     (λ (h : 0 < entries_on n ls). leb-true ((diary_of b n).len + entries_on n ls) 64 (named (λ m. leb ((diary_of b m).len + entries_on m ls) 64) n ls e (omega arith)))
-    (λ (h : entries_on n ls ≤ 0). omega (arith, (timeline-rules.rules (diary_of b n) (on-valid b v n o)).room))
+    (λ (h : entries_on n ls ≤ 0). omega (arith, (timeline-rules.rules_of (diary_of b n) (on-valid b v n o)).room))
     (lt-or-ge 0 (entries_on n ls))
 
 -- lines that are not refused can be booked

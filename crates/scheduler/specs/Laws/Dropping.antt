@@ -84,12 +84,14 @@ module _ (D : Candidate → Type 0) (R : Candidate → Candidate → Type 0) (st
 
   leads : (x y : Candidate) (ds ys : List Candidate) → R x y → Each (λ e. First x e) ds → Sub D R ds ys → insert y ys ≡ y ∷ ys
   unfolding insert_by
+  leads x y [] (e ∷ ys) p _ x8 = elim x8 [ ]
   leads x y [] [] p each_end sub_end = refl
   leads x y (d ∷ ds) (e ∷ ys) p (each_on f a) (sub_keep r s) = rw (sym (same-order x y d e p r) ∙ first-is x d f) refl
   leads x y (d ∷ ds) ys p (each_on f a) (sub_drop k s) = leads x y ds ys p a s
 
   sub-insert : (x y : Candidate) (xs ys : List Candidate) → R x y → InOrder xs → Sub D R xs ys → Sub D R (insert x xs) (insert y ys)
   unfolding insert_by
+  sub-insert x y [] (e ∷ ys) p _ x8 = elim x8 [ ]
   sub-insert x y [] [] p sorted_end sub_end = sub_keep p sub_end
   sub-insert x y (d ∷ ds) (e ∷ ys) p (sorted_on a o) (sub_keep r s) = go (comes_first x d) (comes_first y e) (same-order x y d e p r) (sub-insert x y ds ys p o s)
     where
@@ -108,6 +110,7 @@ module _ (D : Candidate → Type 0) (R : Candidate → Candidate → Type 0) (st
 
   sub-without : (x : Candidate) (xs ys : List Candidate) → D x → Sub D R xs ys → Sub D R (insert x xs) ys
   unfolding insert_by
+  sub-without x [] (e ∷ ys) k x5 = elim x5 [ ]
   sub-without x [] [] k sub_end = sub_drop k sub_end
   sub-without x (d ∷ ds) (e ∷ ys) k (sub_keep r s) = go (comes_first x d) (sub-without x ds ys k s)
     where
@@ -122,6 +125,7 @@ module _ (D : Candidate → Type 0) (R : Candidate → Candidate → Type 0) (st
 
   into : (as' bs cs ds : List Candidate) → InOrder as' → Sub D R as' bs → Sub D R cs ds → Sub D R (sort_into as' cs) (sort_into bs ds)
   unfolding sort_into
+  into as' bs [] (d ∷ ds) o s x6 = elim x6 [ ]
   into as' bs [] [] o s sub_end = s
   into as' bs (c ∷ cs) (d ∷ ds) o s (sub_keep r t) = into (insert c as') (insert d bs) cs ds (insert-sorted c as' o) (sub-insert c d as' bs r o s) t
   into as' bs (c ∷ cs) ds o s (sub_drop k t) = into (insert c as') bs cs ds (insert-sorted c as' o) (sub-without c as' bs k s) t
@@ -132,6 +136,7 @@ module _ (D : Candidate → Type 0) (R : Candidate → Candidate → Type 0) (st
 
   -- the first k stay where none of them falls out
   pub sub-take : (k : ℕ) (xs ys : List Candidate) → Sub D R xs ys → Each (λ x. D x → ⊥) (take k xs) → k ≤ length xs → Pairs R (take k xs) (take k ys) × (k ≤ length ys)
+  sub-take (suc k) [] (y ∷ ys) s a l = elim s [ ]
   sub-take zero xs ys s a l = (pairs_end, omega arith)
   sub-take (suc k) [] [] sub_end a l = absurd (omega arith)
   sub-take (suc k) (x ∷ xs) (y ∷ ys) (sub_keep r s) (each_on f a) l = let w = sub-take k xs ys s a (omega arith) in (pairs_on r w.0, omega (arith, w.1))

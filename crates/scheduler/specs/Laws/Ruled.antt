@@ -49,7 +49,7 @@ arrival-on f (suc n) (r ∷ rs) (suc i) l m = or-in-right (eqb (f r) (f (get_or 
 events-length : (t : ResourceTimeline) → timeline.valid t ≡ true → length (events t) ≤ 128
 unfolding events
 events-length t w =
-    let k = timeline-rules.rules t w in
+    let k = timeline-rules.rules_of t w in
     let A = take t.calendar.windows.len t.calendar.windows.starts in
     let B = take t.calendar.blocks.len t.calendar.blocks.ends in
     let C = take t.len t.ends in
@@ -92,7 +92,7 @@ module _ (b : Board) (v : board.valid b ≡ true) where
       (λ (l : length b.resources < b.len).
       let e = get_or-eq_default b.resources no_resource {n = length b.resources} (omega arith) in
       let k : timeline.valid no_resource.timeline ≡ true = rw e at (diary-valid (length b.resources) l) in
-      absurd (omega (arith, (timeline-rules.rules no_resource.timeline k).some)))
+      absurd (omega (arith, (timeline-rules.rules_of no_resource.timeline k).some)))
       (λ (l : b.len ≤ length b.resources). l)
       (lt-or-ge (length b.resources) b.len)
 

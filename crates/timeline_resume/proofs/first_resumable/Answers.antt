@@ -13,6 +13,7 @@ use Rattle.timeline.specs.Laws.Columns.{columns}
 use Rattle.timeline_resume.proofs.Finding.{free_until, end_over, until_end, until_none, start-listed, start-unlisted}
 use Rattle.timeline_resume.proofs.Trying.{candidate-range}
 use Rattle.timeline_resume.proofs.first_resumable.Goals as goal
+use Rattle.timeline_resume.proofs.first_resumable.Goals.{in-At+else-free_over, in_default}
 
 pub overflow_sub-room : goal.overflow_sub-room
 overflow_sub-room c = c.requires.3
@@ -56,10 +57,10 @@ loop-i-preserved c =
       v.2,
       v.3,
       below_more _ _ v.4
-          (⊎_elim
-          (λ w. until_end _ _ _ _ _ _ (sym c.work_end-end.ensures ∙ ap found_of w.1.given.1) (sym w.7.ensures ∙ w.8.left))
-          (λ w. until_none _ _ _ _ (sym c.work_end-end.ensures ∙ ap found_of w.1.given.1))
-          c.match-end.branch),
+          (elim c.match-end.branch [
+            | in-At+else-free_over w ↦ until_end _ _ _ _ _ _ (sym c.work_end-end.ensures ∙ ap found_of w.in-At.is) (sym w.free_over.ensures ∙ w.if-free_over.false)
+            | in_default w ↦ until_none _ _ _ _ (sym c.work_end-end.ensures ∙ ap found_of w.in_default.is)
+          ]),
     )
 
 pub returns : goal.returns
