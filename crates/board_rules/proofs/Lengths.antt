@@ -34,7 +34,7 @@ blank-len r e =
 pub few-bookings : (b : Board) → valid b ≡ true → (i : ℕ) → i < 16 → (resource_at b i).timeline.len ≤ 64
 few-bookings b v i l =
     ⊎_elim
-    (λ (m : i < b.len). (timeline.rules (resource_at b i).timeline (resource-of b v i m).timeline).room)
+    (λ (m : i < b.len). (timeline.rules_of (resource_at b i).timeline (resource-of b v i m).timeline).room)
     (λ (m : b.len ≤ i). omega (arith, blank-len (resource_at b i) ((rules b v).blank i m l)))
     (lt-or-ge i b.len)
 

@@ -1,5 +1,7 @@
 // Whether a board keeps the rules, and the place of each number on it, in one pass over the board (01, 'Placing', the board's paragraph,
 // and 'Replies': 15).
+#![tactic(auto)]
+
 use board::Board;
 
 mod rules;

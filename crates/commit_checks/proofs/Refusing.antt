@@ -19,11 +19,11 @@ use Rattle.scheduler.specs.Laws.Committed.{BookableLine, Room, all_on, all_meter
 use Rattle.scheduler.specs.Rows.{Row}
 
 -- a check that the code made, and what it is a check of
-pub check-passed : (r p q : Bool) → r ≡ p → p ≡ q → not r ≡ false → q ≡ true
-check-passed r p q e f h = sym f ∙ sym e ∙ not-false r h
+pub check-passed : (r p q : Bool) → r ≡ p → p ≡ q → r ≡ true → q ≡ true
+check-passed r p q e f h = sym f ∙ sym e ∙ h
 
-pub check-failed : (r p q : Bool) → r ≡ p → p ≡ q → not r ≡ true → q ≡ false
-check-failed r p q e f h = sym f ∙ sym e ∙ not-true r h
+pub check-failed : (r p q : Bool) → r ≡ p → p ≡ q → r ≡ false → q ≡ false
+check-failed r p q e f h = sym f ∙ sym e ∙ h
 
 module _ (b : Board) (ls : List Line) (start end category : ℕ) where
   pub refused-off : all_on b ls ≡ false → 5 ≡ lines_refusal b ls start end category

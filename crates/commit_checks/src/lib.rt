@@ -1,4 +1,6 @@
 // The checks of a commitment's rows (01, 'Committing': 5, 1, 2, 3, 4), each over all of them before the next.
+#![tactic(auto)]
+
 ghost use Rattle.std.specs.Prelude.{◌≡◌, true, [], ℕ, ◌≤◌, ◌<◌, length, get_or, take};
 ghost use Rattle.cells.specs.Every.{every};
 ghost use Rattle.board.specs.Places.{FewBookings};

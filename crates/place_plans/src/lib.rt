@@ -1,5 +1,7 @@
 // What an order needs of one resource alone, and what an entry of it takes from the board, as numbers (scheduler/simple.rs, the head of
 // the loop over the serving resources in `place_activity`; 01, 'Choosing', its first half).
+#![tactic(auto)]
+
 ghost use Rattle.std.specs.Prelude.{◌≡◌, ◌≤◌, true, replicate};
 ghost use Rattle.activity.specs.Lawful.{Lawful};
 ghost use Rattle.board.specs.Valid.{resource_right};

@@ -1,4 +1,6 @@
 // What a record of a stream does to a diary in hand, an order in hand and a board (docs/RECORDS.md, kinds 1 to 4 and 16 to 24).
+#![tactic(auto)]
+
 use board::{Board, Entered};
 use record_bodies::{number, wide};
 use record_desk::Desk;
