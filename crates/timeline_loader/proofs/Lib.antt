@@ -1,4 +1,0 @@
--- Tools for walks by hand.
-mod Enter
-mod Plainly
-mod Turns
