@@ -8,7 +8,7 @@ use Rattle.board.specs.Places.{place_of}
 use Rattle.board.specs.Resources.{lookup, on_board}
 use Rattle.board.specs.Valid.{valid}
 use Rattle.board.specs.declared.Board.{Board}
-use Rattle.board.specs.Laws.Facts.{rules, off-above}
+use Rattle.board.specs.Laws.Facts.{rules_of, off-above}
 use Rattle.board.specs.Laws.Seeing.{lookup-below}
 use Rattle.board_numbers.specs.declared.PlaceFor.{PlaceFor}
 use Rattle.board_numbers.specs.Entry.{entry_at, entry_for}
@@ -52,7 +52,7 @@ module _ (b : Board) (number : ℕ) where
     where
       go : (f : Found) → lookup b number ≡ f → 16 ≤ place_of f → record { refusal = 5; place = 0 } ≡ entry_at f
       go nothing e m = refl
-      go (at k) e m = absurd (omega (arith, lookup-below b b.len number k e, (rules b v).few, m))
+      go (at k) e m = absurd (omega (arith, lookup-below b b.len number k e, (rules_of b v).few, m))
 
   pub entry-on : (i : ℕ) → valid b ≡ true → i ≡ place_of (lookup b number) → i < 16 → record { refusal = 0; place = i } ≡ entry_for b number
   unfolding entry_for place_of entry_at
@@ -64,7 +64,7 @@ module _ (b : Board) (number : ℕ) where
 
 -- a place that is found is a cell of the array
 pub found_below : (b : Board) (number i : ℕ) → valid b ≡ true → lookup b number ≡ at i → i < 16
-found_below b number i v e = omega (arith, lookup-below b b.len number i e, (rules b v).few)
+found_below b number i v e = omega (arith, lookup-below b b.len number i e, (rules_of b v).few)
 
 pub entry-at : (b : Board) (number : ℕ) (e : PlaceFor) → e ≡ entry_for b number → e.refusal ≡ 0 → (valid b ≡ true) × (lookup b number ≡ at e.place)
 entry-at b number e q h = rw q (entry_found b number (ap (λ (x : PlaceFor). x.refusal) (sym q) ∙ h))

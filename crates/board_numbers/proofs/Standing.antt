@@ -14,7 +14,7 @@ use Rattle.calendar.specs.Search.{is_at}
 use Rattle.board.specs.Resources.{on_board}
 use Rattle.board.specs.Valid.{valid}
 use Rattle.board.specs.declared.Board.{Board}
-use Rattle.board.specs.Laws.Facts.{rules, off-above}
+use Rattle.board.specs.Laws.Facts.{rules_of, off-above}
 use Rattle.board.specs.Laws.Seeing.{place-on}
 
 off : (b : Board) (n : ℕ) → valid b ≡ true → 16 ≤ n → on_board b n ≡ false
@@ -26,7 +26,7 @@ pub on-is : (b : Board) (n : ℕ) (places : List ℕ) → valid b ≡ true → K
     → leb n 15 && ltb (get_or places n 0) 16 ≡ on_board b n
 on-is b n places v s =
     ⊎_elim
-    (λ (l : n < 16). rw (le-leb n 15 (omega arith), s n l) (place-on b b.len n (rules b v).few))
+    (λ (l : n < 16). rw (le-leb n 15 (omega arith), s n l) (place-on b b.len n (rules_of b v).few))
     (λ (l : 16 ≤ n). rw (lt-leb n 15 (omega arith)) (sym (off b n v l)))
     (lt-or-ge n 16)
 

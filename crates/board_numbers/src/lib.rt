@@ -1,5 +1,7 @@
 // The number of a resource: whether it is on the board, and the place of the resource that an entry or an ask names (01, 'Board entries':
 // 5).
+#![tactic(auto)]
+
 ghost use Rattle.std.specs.Prelude.{◌≡◌, ◌&&◌, get_or, leb, ltb};
 ghost use Rattle.board_numbers.specs.Entry.{entry_for};
 

@@ -15,7 +15,7 @@ use Rattle.board.specs.declared.Resource.{Resource}
 use Rattle.board.specs.Resources.{resource_at}
 use Rattle.board.specs.Places.{Known, Lengths}
 use Rattle.board.specs.Valid.{valid, companions_right, resource_blank, diary_blank}
-use Rattle.board.specs.Laws.Facts.{rules}
+use Rattle.board.specs.Laws.Facts.{rules_of}
 use Rattle.board.specs.Theorems.Meaning.{resource-of}
 
 blank-len : (r : Resource) → resource_blank r ≡ true → r.timeline.len ≡ 0
@@ -35,7 +35,7 @@ pub few-bookings : (b : Board) → valid b ≡ true → (i : ℕ) → i < 16 →
 few-bookings b v i l =
     ⊎_elim
     (λ (m : i < b.len). (timeline.rules_of (resource_at b i).timeline (resource-of b v i m).timeline).room)
-    (λ (m : b.len ≤ i). omega (arith, blank-len (resource_at b i) ((rules b v).blank i m l)))
+    (λ (m : b.len ≤ i). omega (arith, blank-len (resource_at b i) ((rules_of b v).blank i m l)))
     (lt-or-ge i b.len)
 
 -- the diaries so far are read

@@ -16,7 +16,7 @@ use Rattle.board.specs.declared.Board.{Board}
 use Rattle.calendar.specs.Search.{is_at}
 use Rattle.board.specs.Resources.{on_board}
 use Rattle.board.specs.Valid.{valid}
-use Rattle.board.specs.Laws.Facts.{rules}
+use Rattle.board.specs.Laws.Facts.{rules_of}
 use Rattle.scheduler.specs.Alone.{diary_of}
 use Rattle.scheduler.specs.Rows.{Row, number_in, units_in}
 use Rattle.scheduler.specs.Committing.{Line, line_of, lines_of, entries_on}
@@ -125,7 +125,7 @@ module _ (b : Board) (v : valid b ≡ true) (places : List ℕ) (known : Known b
   numbered_is row =
       both_ways (numbered places row) (on_board b (number_in row))
       (λ e. let w = number_is places row e in ap is_at (place-of b v places known (number_in row) w.0 w.1))
-      (λ o. let w = number-place b v places known (number_in row) o in number-on places row w.0 (omega (arith, w.2, (rules b v).few)))
+      (λ o. let w = number-place b v places known (number_in row) o in number-on places row w.0 (omega (arith, w.2, (rules_of b v).few)))
 
   pub numbers-lines : (n : ℕ) (slate : List Row) → every (numbered places) (take n slate) ≡ every (λ l. on_board b l.number) (lines_of n slate)
   numbers-lines n slate =

@@ -19,7 +19,7 @@ use Rattle.board.specs.Resources.{with_timeline, with_last, resource_at, lookup}
 use Rattle.board.specs.Places.{place_of, Known}
 use Rattle.board.specs.Valid as board
 use Rattle.board.specs.Enter.{with_resource, changed}
-use Rattle.board.specs.Laws.Facts.{rules}
+use Rattle.board.specs.Laws.Facts.{rules_of}
 use Rattle.board.specs.Theorems.Meaning.{resource-of}
 use Rattle.scheduler.specs.Alone.{diary_of}
 use Rattle.scheduler.specs.Rows.{Row, number_in, units_in, is_companion}
@@ -119,7 +119,7 @@ module _ (k : Commitment) (places : List ℕ) (b : Board) (l : Line) (ls : List 
       record {
         low = w.0;
         found = w.1;
-        place_low = omega (arith, w.2, (rules b a.valid).few);
+        place_low = omega (arith, w.2, (rules_of b a.valid).few);
         kept = (resource-of b a.valid place w.2).timeline;
         free = subst (λ (t : ResourceTimeline). t.len < 64) (diary-at b l.number place w.1) has_room;
         some = mine.some;

@@ -1,5 +1,7 @@
 // Committing: each entry of a placement is booked in its diary (the loop over a placement's selections in `schedule`,
 // scheduler/simple.rs; 01, 'Committing'). Its checks are the crate `commit_checks`.
+#![tactic(auto)]
+
 ghost use Rattle.std.specs.Prelude.{◌≡◌, true, ◌<◌};
 ghost use Rattle.calendar.specs.Limits.{UnitsInRange};
 ghost use Rattle.timeline.specs.Valid as timeline;

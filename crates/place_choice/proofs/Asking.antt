@@ -20,7 +20,7 @@ use Rattle.board.specs.declared.Resource.{Resource}
 use Rattle.board.specs.declared.Board.{Board}
 use Rattle.board.specs.Resources.{resources_of, resource_at, on_board}
 use Rattle.board.specs.Valid.{valid}
-use Rattle.board.specs.Laws.Facts.{rules}
+use Rattle.board.specs.Laws.Facts.{rules_of}
 use Rattle.board.specs.Theorems.Meaning.{resource-of}
 use Rattle.scheduler.specs.Alone.{Share, one_unit, earliest_of, companions_of, with_companions, span_alone, arrival, start_with, start_alone}
 use Rattle.scheduler.specs.Fitting.{among}
@@ -167,7 +167,7 @@ module _ (b : Board) (a : Activity) (ready i t : ℕ) (q : ResourceRequirement) 
                 → nothing ≡ cond c (cond d (earliest_of a.resumable (span_alone a r) those from) nothing) nothing
             cases true true e f =
                 let z : m.place ≡ seat_of i (companions_of r) places g.next = place_is ∙ rw e refl in
-                absurd (omega (arith, h, (seat f g.next (omega (arith, go.few))).0, (rules b v).few))
+                absurd (omega (arith, h, (seat f g.next (omega (arith, go.few))).0, (rules_of b v).few))
             cases true false e f = refl
             cases false d e f = refl
 

@@ -17,7 +17,7 @@ use Rattle.activity.specs.Laws.Judging.{accepted}
 use Rattle.board.specs.declared.Board.{Board}
 use Rattle.board.specs.Resources.{resource_at}
 use Rattle.board.specs.Valid.{valid}
-use Rattle.board.specs.Laws.Facts.{rules}
+use Rattle.board.specs.Laws.Facts.{rules_of}
 use Rattle.scheduler.specs.Instants.{above, points}
 use Rattle.scheduler.specs.Theorems.Counting.{instants-few}
 use Rattle.place_plans.specs.declared.Plan.{Plan}
@@ -59,7 +59,7 @@ module _ (b : Board) (v : valid b ≡ true) (a : Activity) (ready : ℕ) (w : ac
   state-start n plans x m going at_ready none zero =
       let k = accepted a ready w in
       record {
-        few = (rules b v).few;
+        few = (rules_of b v).few;
         four = k.few;
         long = n;
         most = omega arith;
@@ -67,7 +67,7 @@ module _ (b : Board) (v : valid b ≡ true) (a : Activity) (ready : ℕ) (w : ac
         plan = record { long = m; so = λ i l. absurd (omega arith) };
         whole = λ i l. absurd (omega arith);
         settled = settled-none b a ready x none zero (λ z. absurd (not-both _ z going)) (λ z. rw at_ready (omega (arith, k.ready_range), led-start b v a ready));
-        kept = kept-none b a ready (rules b v).few k.few;
+        kept = kept-none b a ready (rules_of b v).few k.few;
         thru = through-start b a ready x.instant (replicate 64 0);
         none = λ z. refl;
         going = λ d e. going_start b a ready 0 x.instant (requirement_at a 0) v w (omega (arith, at_ready, k.ready_range)) (asked_here 0 b.len _ e);

@@ -13,7 +13,7 @@ use Rattle.board.specs.declared.Resource.{Resource}
 use Rattle.board.specs.declared.Board.{Board}
 use Rattle.board.specs.Resources.{on_board, resource_at}
 use Rattle.board.specs.Valid.{valid}
-use Rattle.board.specs.Laws.Facts.{rules}
+use Rattle.board.specs.Laws.Facts.{rules_of}
 use Rattle.board.specs.Laws.Seeing.{place-on}
 use Rattle.board.specs.Theorems.Meaning.{resource-of}
 use Rattle.scheduler.specs.Alone.{Share, one_unit, resource_in, companions_of, with_companions}
@@ -83,7 +83,7 @@ sits-all own cs places i seat n s = rw s.all s.here
 module _ (b : Board) (v : valid b ≡ true) (places : List ℕ) (known : Known b places) where
   -- a number has a place where it is on the board
   placed-is : (n : ℕ) → n ≤ 15 → has_place places n ≡ on_board b n
-  placed-is n l = ap (λ (p : ℕ). ltb p 16) (known n (omega arith)) ∙ place-on b b.len n (rules b v).few
+  placed-is n l = ap (λ (p : ℕ). ltb p 16) (known n (omega arith)) ∙ place-on b b.len n (rules_of b v).few
 
   every-placed : (cs : List ℕ) → ((k : ℕ) → k < length cs → get_or cs k 0 ≤ 15) → every (has_place places) cs ≡ every (on_board b) cs
   unfolding every

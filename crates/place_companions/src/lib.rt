@@ -3,6 +3,8 @@
 // first half).
 // Each is asked from the start that the one before gave, and the resource again where the start has moved on. A companion not on the board
 // rules the resource out.
+#![tactic(auto)]
+
 ghost use Rattle.std.specs.Prelude.{◌≡◌, ℕ, ◌<◌, ◌≤◌, true, take, slice_index};
 ghost use Rattle.place_companions.specs.Seats.{seat_of};
 ghost use Rattle.calendar.specs.Limits.{last_asked, longest_span, never};

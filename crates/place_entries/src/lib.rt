@@ -1,5 +1,7 @@
 // The entries of those held together: their setups and span, and the companions that join them (the second half of `place_activity` in
 // scheduler/simple.rs; 01, 'Fitting').
+#![tactic(auto)]
+
 use activity::Activity;
 use place_plans::Plan;
 use scheduler::Selection;

@@ -14,7 +14,7 @@ use Rattle.timeline.specs.Valid as timeline
 use Rattle.board.specs.declared.Board.{Board}
 use Rattle.board.specs.Resources.{lookup, on_board}
 use Rattle.board.specs.Valid.{valid}
-use Rattle.board.specs.Laws.Facts.{rules}
+use Rattle.board.specs.Laws.Facts.{rules_of}
 use Rattle.scheduler.specs.declared.Entry.{Entry}
 use Rattle.scheduler.specs.Alone.{Share, resource_in}
 use Rattle.scheduler.specs.Fitting.{share_of, shares_of}
@@ -72,7 +72,7 @@ module _ (b : Board) (es : List Entry) (n : ℕ) (first : ResourceTimeline) wher
       placed = number-place b a.board places a.known entry.number (a.entries.each (i - 1) (omega arith)).0
 
       pub entry-small : Small es places i
-      entry-small = (placed.0, omega (arith, placed.2, (rules b a.board).few))
+      entry-small = (placed.0, omega (arith, placed.2, (rules_of b a.board).few))
 
       pub read-share : share_at b (get_or places entry.number 0) entry.units ≡ get_or those i no_share
       unfolding resource_in

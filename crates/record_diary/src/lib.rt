@@ -1,4 +1,6 @@
 // What a record of a stream does to a diary and what it prints (01, 'Program slot'). Everything that `slot` decides is here.
+#![tactic(auto)]
+
 ghost use Rattle.std.specs.Prelude.{◌≡◌, ◌+◌, ◌≤◌, ◌<◌, length, false};
 ghost use Rattle.record_diary_text.specs.Lines.{line_of, line as printed};
 ghost use Rattle.record_bodies.specs.Bodies.{diary_len};

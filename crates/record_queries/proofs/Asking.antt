@@ -19,7 +19,7 @@ use Rattle.board.specs.Setups.{setup_ms}
 use Rattle.board.specs.Transport.{greatest_transport}
 use Rattle.board.specs.Places.{anywhere, place_of}
 use Rattle.board.specs.Valid.{valid, last_right}
-use Rattle.board.specs.Laws.Facts.{rules}
+use Rattle.board.specs.Laws.Facts.{rules_of}
 use Rattle.board.specs.Laws.Seeing.{lookup-below}
 use Rattle.board.specs.Theorems.Meaning.{transport-is}
 use Rattle.record_desk.specs.declared.Desk.{Desk}
@@ -56,7 +56,7 @@ module _ (b : Board) (number : ℕ) where
       go true v nothing g =
           record { number_refusal = rw (v, g) refl; rules_kept = λ z. absurd (omega arith); stands = λ z. absurd (omega arith); low = λ z. absurd (omega arith) }
       go true v (at k) g =
-          let l : k < 16 = omega (arith, lookup-below b b.len number k g, (rules b v).few) in
+          let l : k < 16 = omega (arith, lookup-below b b.len number k g, (rules_of b v).few) in
           record { number_refusal = rw (v, g) refl; rules_kept = λ z. v; stands = λ z. g; low = λ z. (l, omega (arith, on-small b number v (rw g refl))) }
 
   -- the refusal of a number, then the rest

@@ -63,9 +63,9 @@ pub record BoardRules (b : Board) : Type 0 where
   pub blank : (i : ℕ) → b.len ≤ i → i < 16 → resource_blank (resource_at b i) ≡ true
   pub transport : (k : ℕ) → k < 256 → transport_right b k ≡ true
 
-pub rules : (b : Board) → valid b ≡ true → BoardRules b
+pub rules_of : (b : Board) → valid b ≡ true → BoardRules b
 unfolding valid
-rules b h =
+rules_of b h =
     let p = and_split (leb b.len 16) (every_from (cell_right b) 0 16 && every_from (transport_right b) 0 256) h in
     let q = and_split (every_from (cell_right b) 0 16) (every_from (transport_right b) 0 256) p.1 in
     let few : b.len ≤ 16 = leb-true b.len 16 p.0 in
@@ -96,7 +96,7 @@ off-above b n v l = go (lookup b n) refl
     go : (f : Found) → lookup b n ≡ f → f ≡ nothing
     go nothing e = refl
     go (at k) e =
-        let r = rules b v in
+        let r = rules_of b v in
         let m = lookup-below b b.len n k e in
         absurd (omega (arith, resource-number _ (r.right k m), lookup-number b b.len n k e))
 

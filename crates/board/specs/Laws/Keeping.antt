@@ -12,7 +12,7 @@ use Rattle.board.specs.Resources.{blank_resource, no_resource, resource_at, numb
 use Rattle.board.specs.Valid.{is_zero, matrix_right, companions_right, resource_right, diary_blank, last_blank, resource_blank, transport_cell, transport_right, valid}
 use Rattle.board.specs.declared.Board.{Board}
 use Rattle.board.specs.declared.Resource.{Resource}
-use Rattle.board.specs.Laws.Facts.{rules, ruled}
+use Rattle.board.specs.Laws.Facts.{rules_of, ruled}
 use Rattle.board.specs.Laws.Seeing.{lookup-below}
 use Rattle.calendar.specs.Add.{empty}
 use Rattle.timeline.specs.Diary.{diary}
@@ -37,7 +37,7 @@ widened ms false q x y f g h =
 module _ (b : Board) (i : ℕ) (r : Resource) (long : length b.resources ≡ 16) (v : valid b ≡ true) (l : i < b.len)
     (h : resource_right r ≡ true) (e : r.number ≡ number_at b i) where
   here : resource_at (with_resource b i r) i ≡ r
-  here = get_or-set_same b.resources i r no_resource (omega (arith, (rules b v).few))
+  here = get_or-set_same b.resources i r no_resource (omega (arith, (rules_of b v).few))
 
   there : (j : ℕ) → (j ≡ i → ⊥) → resource_at (with_resource b i r) j ≡ resource_at b j
   there j ne = get_or-set_other b.resources i j r no_resource ne
@@ -59,7 +59,7 @@ module _ (b : Board) (i : ℕ) (r : Resource) (long : length b.resources ≡ 16)
 
   pub valid-with : valid (with_resource b i r) ≡ true
   valid-with =
-      let u = rules b v in
+      let u = rules_of b v in
       ruled (with_resource b i r) (record {
         few = u.few;
         right = λ j m.

@@ -17,7 +17,7 @@ use Rattle.board.specs.declared.Resource.{Resource}
 use Rattle.board.specs.declared.TransitionMatrix.{TransitionMatrix}
 use Rattle.cells.specs.Every.{every_from}
 use Rattle.cells.specs.Laws.Every.{from_at}
-use Rattle.board.specs.Laws.Facts.{rules, ruled}
+use Rattle.board.specs.Laws.Facts.{rules_of, ruled}
 use Rattle.board.specs.Laws.Masks.{greatest-none, greatest-next}
 use Rattle.board.specs.Laws.Seeing.{lookup-below, lookup-number, nothing-of}
 use Rattle.calendar.specs.Laws.Searching.{least-none, least-is}
@@ -29,7 +29,7 @@ use Rattle.board.specs.Laws.Keeping.{blank-right}
 pub lookup-is : (b : Board) → valid b ≡ true → (i : ℕ) → i < b.len → lookup b (number_at b i) ≡ at i
 unfolding lookup_to
 lookup-is b v i l =
-    let r = rules b v in
+    let r = rules_of b v in
     least-is _ 0 b.len i (record {
       low = omega arith;
       holds = eq-eqb (number_at b i) (number_at b i) refl;
@@ -70,7 +70,7 @@ resource-rules r h =
     }
 
 pub resource-of : (b : Board) → valid b ≡ true → (i : ℕ) → i < b.len → ResourceRules (resource_at b i)
-resource-of b v i l = resource-rules _ ((rules b v).right i l)
+resource-of b v i l = resource-rules _ ((rules_of b v).right i l)
 
 -- a transport is at most 2^36, and 0 where either of the two is not on the board
 cell-facts : (ms : ℕ) (p q : Bool) → transport_cell ms p q ≡ true → (ms ≤ 2 ^ 36) × (p && q ≡ false → ms ≡ 0)
@@ -81,7 +81,7 @@ cell-facts ms p q h =
 transport-fact : (b : Board) → valid b ≡ true → (k : ℕ) → k < 256
     → (get_or b.transport k 0 ≤ 2 ^ 36) × (on_board b (k / 16) && on_board b (k % 16) ≡ false → get_or b.transport k 0 ≡ 0)
 unfolding transport_right
-transport-fact b v k l = cell-facts (get_or b.transport k 0) (on_board b (k / 16)) (on_board b (k % 16)) ((rules b v).transport k l)
+transport-fact b v k l = cell-facts (get_or b.transport k 0) (on_board b (k / 16)) (on_board b (k % 16)) ((rules_of b v).transport k l)
 
 -- bits off the board add nothing on a valid board
 pub off-nothing : (b : Board) → valid b ≡ true → (origins to n : ℕ) → to < 16 → n ≤ 16

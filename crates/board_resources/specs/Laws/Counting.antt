@@ -5,7 +5,7 @@ use Rattle.calendar.specs.Search.{least_from, is_at}
 use Rattle.board.specs.Resources.{number_at, lookup_to, on_board}
 use Rattle.board.specs.Valid.{valid}
 use Rattle.board.specs.declared.Board.{Board}
-use Rattle.board.specs.Laws.Facts.{resource-number, BoardRules, rules}
+use Rattle.board.specs.Laws.Facts.{resource-number, BoardRules, rules_of}
 use Rattle.board.specs.Laws.Counts.{count_to, count_none, count-more, count-short}
 use Rattle.board.specs.Laws.Seeing.{lookup-here, lookup-there}
 
@@ -21,5 +21,5 @@ held-len b r (suc i) l =
 
 pub place-left : (b : Board) (number : ℕ) → valid b ≡ true → number ≤ 15 → on_board b number ≡ false → b.len < 16
 place-left b number v l e =
-    let r = rules b v in
+    let r = rules_of b v in
     omega (arith, count-short (λ n. is_at (lookup_to b b.len n)) 16 number (omega arith) e, held-len b r b.len (omega arith))

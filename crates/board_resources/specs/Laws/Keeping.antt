@@ -18,7 +18,7 @@ use Rattle.board.specs.declared.TransitionMatrix.{TransitionMatrix}
 use Rattle.board_numbers.proofs.Standing.{on-small}
 use Rattle.cells.specs.Every.{every, every_from}
 use Rattle.cells.specs.Laws.Every.{every_in, from_at, from_all}
-use Rattle.board.specs.Laws.Facts.{rules, ruled}
+use Rattle.board.specs.Laws.Facts.{rules_of, ruled}
 use Rattle.board.specs.Laws.Keeping.{lookup-same, widened}
 use Rattle.board.specs.Laws.Seeing.{lookup-more}
 use Rattle.timeline.specs.declared.ResourceTimeline.{ResourceTimeline}
@@ -122,7 +122,7 @@ set_there b from to ms k ne h =
 pub transport-kept-with : (b : Board) (from to ms : ℕ) → valid b ≡ true → length b.transport ≡ 256
     → (valid b ≡ true) × (on_board b from ≡ true) × (on_board b to ≡ true) × (ms ≤ 2 ^ 36) → valid (with_transport b from to ms) ≡ true
 transport-kept-with b from to ms v wide f =
-    let u = rules b v in
+    let u = rules_of b v in
     let c = with_transport b from to ms in
     let p : from ≤ 15 = on-small b from v f.1 in
     let q : to ≤ 15 = on-small b to v f.2 in
@@ -194,7 +194,7 @@ module _ (b : Board) (r : Resource) (long : length b.resources ≡ 16) (v : vali
   pub valid-new : valid (with_new b r) ≡ true
   unfolding with_new
   valid-new =
-      let u = rules b v in
+      let u = rules_of b v in
       ruled (with_new b r) (record {
         few = omega arith;
         right = λ j m.

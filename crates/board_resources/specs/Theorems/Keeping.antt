@@ -8,7 +8,7 @@ use Rattle.board.specs.Enter.{add_resource_reply, matrix_refusal, new_matrix, se
 use Rattle.board.specs.Resources.{new_resource, with_matrix, with_timeline, resource_at, on_board}
 use Rattle.board.specs.Valid.{duration_right, entry_right, valid}
 use Rattle.board.specs.declared.Board.{Board}
-use Rattle.board.specs.Laws.Facts.{rules}
+use Rattle.board.specs.Laws.Facts.{rules_of}
 use Rattle.board.specs.Theorems.Meaning.{resource-rules}
 use Rattle.board_resources.specs.Laws.Replying.{add-taken}
 use Rattle.board_transport.proofs.Replying.{transport-taken}
@@ -23,7 +23,7 @@ module _ (b : Board) (long : length b.resources ≡ 16) (v : valid b ≡ true) w
   set-matrix-keeps number d i =
       entered-keeps _ b _ v (λ z.
       let w = and_split (duration_right d) (duration_right i) (third (valid b) (on_board b number) (duration_right d && duration_right i) z) in
-      changed-keeps b number (with_matrix (new_matrix d i)) long v (λ k l. (remade _ _ ((rules b v).right k l) (new-right d i w.0 w.1), refl)))
+      changed-keeps b number (with_matrix (new_matrix d i)) long v (λ k l. (remade _ _ ((rules_of b v).right k l) (new-right d i w.0 w.1), refl)))
 
   pub set-transition-keeps : (number last this : ℕ) (ms : ℤ) → valid (set_transition_reply b number last this ms).board ≡ true
   unfolding set_transition_reply entry_refusal
@@ -31,7 +31,7 @@ module _ (b : Board) (long : length b.resources ≡ 16) (v : valid b ≡ true) w
       entered-keeps _ b _ v (λ z.
       let w = third (valid b) (on_board b number && (leb last 15 && leb this 15)) (entry_right ms) z in
       changed-keeps b number _ long v (λ k l.
-      let r = (rules b v).right k l in
+      let r = (rules_of b v).right k l in
       let o = of_right (resource_at b k).matrix (resource-rules _ r).matrix in
       (remade _ _ r (transition-right _ last this ms o.1 o.0 w), refl)))
 
@@ -41,7 +41,7 @@ module _ (b : Board) (long : length b.resources ≡ 16) (v : valid b ≡ true) w
       entered-keeps _ b _ v (λ z.
       let w = third (valid b) (on_board b number && leb category 15) (entry_right ms) z in
       changed-keeps b number _ long v (λ k l.
-      let r = (rules b v).right k l in
+      let r = (rules_of b v).right k l in
       let o = of_right (resource_at b k).matrix (resource-rules _ r).matrix in
       (remade _ _ r (initial-right _ category ms o.1 o.0 w), refl)))
 
@@ -51,7 +51,7 @@ module _ (b : Board) (long : length b.resources ≡ 16) (v : valid b ≡ true) w
       entered-keeps _ b _ v (λ z.
       let w = (unrefused (not (valid b) || not (timeline.valid t)) 14 _ z).0 in
       let u : timeline.valid t ≡ true = not-false _ (rw v at w) in
-      changed-keeps b number (with_timeline t) long v (λ k l. (rewritten _ t ((rules b v).right k l) u, refl)))
+      changed-keeps b number (with_timeline t) long v (λ k l. (rewritten _ t ((rules_of b v).right k l) u, refl)))
 
   pub set-transport-keeps : length b.transport ≡ 256 → (from to ms : ℕ) → valid (set_transport_reply b from to ms).board ≡ true
   unfolding set_transport_reply

@@ -9,7 +9,7 @@ use Prim.Native.Nat.{◌/◌, ◌%◌}
 use native.Mathlib.Omega.{arith}
 use lib.ListN.{get_or, length, length-map}
 use Rattle.board.specs.Resources.{resource_at}
-use Rattle.board.specs.Laws.Facts.{rules}
+use Rattle.board.specs.Laws.Facts.{rules_of}
 use Rattle.board.specs.Theorems.Meaning.{resource-of}
 use Rattle.timeline_fit.specs.Steps.{start_of}
 use Rattle.place_plans.specs.Plans.{no_plan, plan_with}
@@ -55,7 +55,7 @@ plan-of-requires c κs =
     let a = d.args.t2 in
     let i = c.before.before.before.before.before.before.loop.planned in
     let l = c.before.before.before.if2.true in
-    ((rules b d.requires.0).right i l, order-lawful b a d.args.ready d.requires.0 d.requires.1, category_range b a d.args.ready d.requires.0 d.requires.1, way-small b a d.args.ready d.requires.0 d.requires.1 i l)
+    ((rules_of b d.requires.0).right i l, order-lawful b a d.args.ready d.requires.0 d.requires.1, category_range b a d.args.ready d.requires.0 d.requires.1, way-small b a d.args.ready d.requires.0 d.requires.1 i l)
 
 mul-plans : tie.Need-overflow-mul-plans invariant-loop decreases-loop
 mul-plans c = record { fits = omega (arith, c.before.before.before.before.before.before.before.loop.invariant.few, c.before.before.before.before.if2.true) }

@@ -27,7 +27,7 @@ use Rattle.board.specs.declared.Board.{Board}
 use Rattle.board.specs.Resources.{no_resource, resource_at, number_at, lookup_to, lookup, on_board}
 use Rattle.board.specs.Valid as board
 use Rattle.board.specs.Enter.{changed}
-use Rattle.board.specs.Laws.Facts.{rules}
+use Rattle.board.specs.Laws.Facts.{rules_of}
 use Rattle.board.specs.Theorems.Meaning.{lookup-means, resource-rules}
 use Rattle.board.specs.Laws.Keeping.{lookup-same, valid-with}
 use Rattle.scheduler.specs.Alone.{resource_in, diary_of}
@@ -195,14 +195,14 @@ module _ (start end category : ℕ) (w : Bookable start end category) where
     pub lookup-after : (n : ℕ) → lookup after n ≡ lookup b n
     lookup-after n =
         ap (λ (k : ℕ). lookup_to after k n) (step-len start end category b l (lookup b l.number))
-        ∙ lookup-same b after b.len n (λ m i. step-number start end category b l m (omega (arith, (rules b v).few)))
+        ∙ lookup-same b after b.len n (λ m i. step-number start end category b l m (omega (arith, (rules_of b v).few)))
 
     place : (i : ℕ) × (lookup b l.number ≡ at i) × (i < b.len)
     place = on-place b l.number p.on
 
     here : resource_at after place.0 ≡ booked start end category l (resource_at b place.0)
     unfolding changed
-    here = rw place.1 (get_or-set_same b.resources place.0 (booked start end category l (resource_at b place.0)) no_resource (omega (arith, place.2, (rules b v).few)))
+    here = rw place.1 (get_or-set_same b.resources place.0 (booked start end category l (resource_at b place.0)) no_resource (omega (arith, place.2, (rules_of b v).few)))
 
     -- the diary named has one booking more, the others are as they were
     diary-after : (n : ℕ) → on_board b n ≡ true → (diary_of after n).len ≡ (diary_of b n).len + cond (eqb l.number n) 1 0
@@ -228,7 +228,7 @@ module _ (start end category : ℕ) (w : Bookable start end category) where
         let r = resource_at b i in
         let t : r.timeline.len < 64 = subst (λ (f : Found). (resource_in b f).timeline.len < 64) place.1 room in
         subst (λ (f : Found). board.valid (changed b f (booked start end category l)) ≡ true) (sym place.1)
-        (valid-with b i (booked start end category l r) long v place.2 (booked-right l r p.some p.few ((rules b v).right i place.2) t) refl)
+        (valid-with b i (booked start end category l r) long v place.2 (booked-right l r p.some p.few ((rules_of b v).right i place.2) t) refl)
 
     pub right-after : (k : Line) → BookableLine b k → BookableLine after k
     unfolding is_at

@@ -20,7 +20,7 @@ use Rattle.board.specs.declared.Resource.{Resource}
 use Rattle.board.specs.declared.Board.{Board}
 use Rattle.board.specs.Resources.{no_resource, resources_of, resource_at, lookup, on_board}
 use Rattle.board.specs.Valid as board
-use Rattle.board.specs.Laws.Facts.{rules}
+use Rattle.board.specs.Laws.Facts.{rules_of}
 use Rattle.board.specs.Laws.Knowing.{on-place}
 use Rattle.board.specs.Theorems.Meaning.{resource-of}
 use Rattle.scheduler.specs.Alone.{Share, resource_in, diary_of, one_unit, companions_of, with_companions, arrival}
@@ -138,7 +138,7 @@ module _ (b : Board) (v : board.valid b ≡ true) where
   events-board =
       let w = each-cells (λ r. timeline.valid r.timeline ≡ true) no_resource b.len b.resources (λ i l m. diary-valid i l) in
       let n = events-count (map (λ r. r.timeline) (resources_of b)) (each-in-map (λ t. timeline.valid t ≡ true) (λ r. r.timeline) (resources_of b) w) in
-      omega (arith, n, length-map (resources_of b) (λ (r : Resource). r.timeline), length-take b.len b.resources, (rules b v).few)
+      omega (arith, n, length-map (resources_of b) (λ (r : Resource). r.timeline), length-take b.len b.resources, (rules_of b v).few)
 
   module _ (a : Activity) (ready : ℕ) where
     pub all-kept : (q : ResourceRequirement) → Each (KeepsRules b a ready q) (resources_of b)
@@ -168,4 +168,4 @@ module _ (b : Board) (v : board.valid b ≡ true) where
     unfolding points
     points-length =
         let rs = resources_of b in
-        omega (arith, length-append (map (arrival b a ready) rs) (events_on b), length-map rs (arrival b a ready), events-board, length-take b.len b.resources, (rules b v).few)
+        omega (arith, length-append (map (arrival b a ready) rs) (events_on b), length-map rs (arrival b a ready), events-board, length-take b.len b.resources, (rules_of b v).few)
