@@ -1,4 +1,6 @@
 // The diary of a resource looked up on a board, and put back (models/resource.rs; 01, 'Board entries').
+#![tactic(auto)]
+
 ghost use Rattle.std.specs.Prelude.{◌≡◌};
 ghost use Rattle.board.specs.Enter.{timeline_of_reply, put_timeline_reply};
 

@@ -1,5 +1,7 @@
 // Entries of a board's matrices: a resource's matrix, and the entries of a pair of categories or of a first one (models/constraint.rs; 01,
 // 'Board entries').
+#![tactic(auto)]
+
 ghost use Rattle.std.specs.Prelude.{◌≡◌, ◌≤◌};
 ghost use Rattle.board.specs.Enter.{new_matrix, matrix_of, with_transition, with_initial, set_matrix_reply, set_transition_reply, set_initial_reply};
 

@@ -1,4 +1,6 @@
 // The entry of a transport between two resources of a board (models/resource.rs; 01, 'Board entries').
+#![tactic(auto)]
+
 ghost use Rattle.std.specs.Prelude.{◌≡◌};
 ghost use Rattle.board.specs.Enter.{transport_refusal, set_transport_reply};
 

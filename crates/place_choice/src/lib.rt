@@ -5,6 +5,8 @@
 // scheduler/specs/Theorems/Counting.antt), and the Rust's 10,000 are never met. In a round at most 64 answers are asked for, one of each
 // resource to each requirement, with its companions, and only where the last answer has been passed.
 // Reference: the Rust's own, the fixed point of the serial schedule generation scheme (`place_activity`).
+#![tactic(auto)]
+
 ghost use Rattle.std.specs.Prelude.{◌≡◌, true, ◌≤◌};
 ghost use Rattle.calendar.specs.Limits.{last_asked};
 ghost use Rattle.activity.specs.Check.{activity_refusal};

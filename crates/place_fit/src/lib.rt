@@ -4,6 +4,8 @@
 // where the start has moved on, until all stay. Each move leads to an event on one of the diaries or on the own calendar, so it ends
 // (`asked-less` in scheduler/specs/Laws/Asking.antt); there are at most 2,112 of them. The Rust asks all from one instant and goes on to
 // the latest answer; the least common start is the same (`closing-rounds` in scheduler/specs/Theorems/Counting.antt).
+#![tactic(auto)]
+
 ghost use Rattle.std.specs.Prelude.{◌≡◌, false};
 ghost use Rattle.scheduler.specs.Fitting.{shares_of};
 ghost use Rattle.scheduler.specs.Shares.{own_share};

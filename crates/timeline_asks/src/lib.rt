@@ -1,5 +1,7 @@
 // Asking a diary: the least start of an unbroken span and of resumable work (scheduler/timeline.rs; 01, the replies of 'Asking a
 // diary').
+#![tactic(auto)]
+
 ghost use Rattle.std.specs.Prelude.{◌≡◌};
 ghost use Rattle.timeline.specs.Ask.{ask_refusal, fit_reply, resumable_reply};
 ghost use Rattle.timeline_asks.specs.Answers.{reply_of};

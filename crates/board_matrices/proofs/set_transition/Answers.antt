@@ -1,0 +1,53 @@
+-- `board_matrices::set_transition` meets its contract.
+use borrow.Author.Rules.{rules}
+use borrow.Author.Tests.{not-true, not-false, le-leb, lt-leb}
+use mathlib.Core.Bool.{true}
+use mathlib.Core.Path.{◌≡◌, refl, sym, ◌∙◌}
+use Prim.Native.Nat.{◌<◌}
+use native.Mathlib.Omega.{arith}
+use mir.Syntax.{w64}
+use mir.ValLaws.{to_z-of_z}
+use Rattle.board.specs.Enter.{set_transition_reply}
+use Rattle.calendar.specs.Search.{at}
+use Rattle.board.specs.Resources.{lookup}
+use Rattle.board.specs.Valid.{valid}
+use Rattle.board_numbers.proofs.Finding.{found_below, entry-at}
+use Rattle.board_matrices.proofs.Replying.{entry-refused, category-refused, entry-wrong, transition-taken}
+use Rattle.board_matrices.proofs.set_transition.Goals as goal
+
+pub returns-then-e-ne0 : goal.returns-then-e-ne0
+unfolding set_transition_reply
+returns-then-e-ne0 c = entry-refused _ _ _ _ _ _ c.entry_for-e.ensures c.if-e-ne0.true
+
+pub returns-then-last-gt15 : goal.returns-then-last-gt15
+unfolding set_transition_reply
+returns-then-last-gt15 c = category-refused _ _ _ _ _ ((let it : (valid c.args.board ≡ true) × (lookup c.args.board c.args.number ≡ at c.entry_for-e.result.place) = entry-at _ _ _ c.entry_for-e.ensures c.if-e-ne0.false in it)).0 (rw (lt-leb _ _ c.if-last-gt15.true) refl)
+
+pub returns-then-this-gt15 : goal.returns-then-this-gt15
+unfolding set_transition_reply
+returns-then-this-gt15 c = category-refused _ _ _ _ _ ((let it : (valid c.args.board ≡ true) × (lookup c.args.board c.args.number ≡ at c.entry_for-e.result.place) = entry-at _ _ _ c.entry_for-e.ensures c.if-e-ne0.false in it)).0 (rw (le-leb _ _ c.if-last-gt15.false, lt-leb _ _ c.if-this-gt15.true) refl)
+
+pub returns-then-not-entry_right : goal.returns-then-not-entry_right
+unfolding set_transition_reply
+returns-then-not-entry_right c =
+    let back = to_z-of_z w64 c.args.ms c.ranges.ms in
+    let p = sym (rw back at c.entry_right.ensures) ∙ c.if-not-entry_right.true in
+    entry-wrong _ _ _ _ _ _ ((let it : (valid c.args.board ≡ true) × (lookup c.args.board c.args.number ≡ at c.entry_for-e.result.place) = entry-at _ _ _ c.entry_for-e.ensures c.if-e-ne0.false in it)).0 ((let it : (valid c.args.board ≡ true) × (lookup c.args.board c.args.number ≡ at c.entry_for-e.result.place) = entry-at _ _ _ c.entry_for-e.ensures c.if-e-ne0.false in it)).1 (rw (le-leb _ _ c.if-last-gt15.false, le-leb _ _ c.if-this-gt15.false) refl) p
+
+pub offset_bounds-b-i : goal.offset_bounds-b-i
+offset_bounds-b-i c = record { fits = omega (arith, (let it : c.entry_for-e.result.place < 16 = found_below _ _ _ ((let it : (valid c.args.board ≡ true) × (lookup c.args.board c.args.number ≡ at c.entry_for-e.result.place) = entry-at _ _ _ c.entry_for-e.ensures c.if-e-ne0.false in it)).0 ((let it : (valid c.args.board ≡ true) × (lookup c.args.board c.args.number ≡ at c.entry_for-e.result.place) = entry-at _ _ _ c.entry_for-e.ensures c.if-e-ne0.false in it)).1 in it)) }
+
+pub bounds-b-i : goal.bounds-b-i
+bounds-b-i c = omega (arith, (let it : c.entry_for-e.result.place < 16 = found_below _ _ _ ((let it : (valid c.args.board ≡ true) × (lookup c.args.board c.args.number ≡ at c.entry_for-e.result.place) = entry-at _ _ _ c.entry_for-e.ensures c.if-e-ne0.false in it)).0 ((let it : (valid c.args.board ≡ true) × (lookup c.args.board c.args.number ≡ at c.entry_for-e.result.place) = entry-at _ _ _ c.entry_for-e.ensures c.if-e-ne0.false in it)).1 in it))
+
+pub offset_bounds-b-i-2 : goal.offset_bounds-b-i-2
+offset_bounds-b-i-2 c = record { fits = omega (arith, (let it : c.entry_for-e.result.place < 16 = found_below _ _ _ ((let it : (valid c.args.board ≡ true) × (lookup c.args.board c.args.number ≡ at c.entry_for-e.result.place) = entry-at _ _ _ c.entry_for-e.ensures c.if-e-ne0.false in it)).0 ((let it : (valid c.args.board ≡ true) × (lookup c.args.board c.args.number ≡ at c.entry_for-e.result.place) = entry-at _ _ _ c.entry_for-e.ensures c.if-e-ne0.false in it)).1 in it)) }
+
+pub bounds-b-i-2 : goal.bounds-b-i-2
+bounds-b-i-2 c = omega (arith, (let it : c.entry_for-e.result.place < 16 = found_below _ _ _ ((let it : (valid c.args.board ≡ true) × (lookup c.args.board c.args.number ≡ at c.entry_for-e.result.place) = entry-at _ _ _ c.entry_for-e.ensures c.if-e-ne0.false in it)).0 ((let it : (valid c.args.board ≡ true) × (lookup c.args.board c.args.number ≡ at c.entry_for-e.result.place) = entry-at _ _ _ c.entry_for-e.ensures c.if-e-ne0.false in it)).1 in it))
+
+pub returns : goal.returns
+returns c =
+    let back = to_z-of_z w64 c.args.ms c.ranges.ms in
+    let p = sym (rw back at c.entry_right.ensures) ∙ c.if-not-entry_right.false in
+    transition-taken _ _ _ _ _ ((let it : (valid c.args.board ≡ true) × (lookup c.args.board c.args.number ≡ at c.entry_for-e.result.place) = entry-at _ _ _ c.entry_for-e.ensures c.if-e-ne0.false in it)).0 ((let it : (valid c.args.board ≡ true) × (lookup c.args.board c.args.number ≡ at c.entry_for-e.result.place) = entry-at _ _ _ c.entry_for-e.ensures c.if-e-ne0.false in it)).1 p _ _ (omega arith) (omega arith) (rw back at c.with_transition-m.ensures)
