@@ -1,5 +1,7 @@
 // A resource entered on a board (models/resource.rs; 01, 'Board entries'). Entries of a matrix are made by `board_matrices`, those of the
 // transport by `board_transport`; diaries are looked up and put back by `board_diaries`.
+#![tactic(auto)]
+
 ghost use Rattle.std.specs.Prelude.{◌≡◌, ◌≤◌, length, leb};
 ghost use Rattle.cells.specs.Every.{every};
 ghost use Rattle.board.specs.Resources.{companion_cells};

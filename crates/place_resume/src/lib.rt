@@ -3,6 +3,8 @@
 // Searched are the choosing instant and the start candidates of all diaries after it, in rising order, each with the end of the work over
 // the joint working time, which is laid out once. Each instant tried is later than the last and an event on one of the diaries or on the
 // own calendar, so it ends. The Rust gathers and sorts the same instants first, and has no rounds here.
+#![tactic(auto)]
+
 ghost use Rattle.std.specs.Prelude.{◌≡◌, true, false, ◌&&◌, ◌⊎◌, ◌≤◌, ◌<◌, length};
 ghost use Rattle.calendar.specs.Limits.{longest_span, never};
 ghost use Rattle.calendar_work.specs.Layout.{Edges};

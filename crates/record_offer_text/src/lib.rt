@@ -1,5 +1,7 @@
 // The text that an answer of `offer` prints (docs/RECORDS.md): its line and, behind a placement's, a line for each entry of the slate that
 // it speaks of.
+#![tactic(auto)]
+
 ghost use Rattle.std.specs.Prelude.{◌≡◌, ◌+◌, ◌*◌, ◌≤◌, length, take};
 ghost use Rattle.record_texts.specs.Text.{Put};
 ghost use Rattle.record_offer.specs.Offers.{shown as shown_of};

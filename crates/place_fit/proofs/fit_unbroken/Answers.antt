@@ -86,13 +86,13 @@ loop-i-smaller c =
     let l = c.loop-i-test.true in
     let first = c.own_timeline-first.result in
     elim c.if-i-gt0.branch [ then-i-gt0 w ↦ rw (w.d-is, w.units-is) (read-share a.b a.e.entries a.e.count first a.places k.invariant.0 k.i w.if-i-gt0.true l) | else-i-gt0 w ↦ rw (w.d-is, w.units-is) (own-share a.b a.e.entries a.e.count first a.places k.invariant.0 k.i w.if-i-gt0.false) ] in it) in
-    let s = c.s-1.given in
+    let s = c.in-At in
     let xs = those a.b a.e.entries a.e.count first in
     let m : k.i < length xs = omega (arith, l, asks-long a.b a.e.entries a.e.count first a.places k.invariant.0) in
-    let e = start-read _ _ k.t a.span _ j _ (sym c.earliest_fit-s.ensures ∙ ap start_of s.1) in
+    let e = start-read _ _ k.t a.span _ j _ (sym c.earliest_fit-s.ensures ∙ ap start_of s.is) in
     let w = asks-sound a.b a.e.entries a.e.count first a.places k.invariant.0 in
-    let x = asked-listed false a.span xs a.from k.t k.i w k.invariant.2 m s.0.0 e in
-    rw c.next_asked-i.ensures (asked-less (instants a.b a.e.entries a.e.count first) (a.e.count + 1) k.t k.t k.i s.0.0 (omega (arith, k.invariant.0.entries.few)) l (omega arith) x.0 (listed-among xs k.i k.t s.0.0 x.1))
+    let x = asked-listed false a.span xs a.from k.t k.i w k.invariant.2 m s.x e in
+    rw c.next_asked-i.ensures (asked-less (instants a.b a.e.entries a.e.count first) (a.e.count + 1) k.t k.t k.i s.x (omega (arith, k.invariant.0.entries.few)) l (omega arith) x.0 (listed-among xs k.i k.t s.x x.1))
 
 pub loop-i-preserved : goal.loop-i-preserved
 unfolding start_of
@@ -106,12 +106,12 @@ loop-i-preserved c =
     let l = c.loop-i-test.true in
     let first = c.own_timeline-first.result in
     elim c.if-i-gt0.branch [ then-i-gt0 w ↦ rw (w.d-is, w.units-is) (read-share a.b a.e.entries a.e.count first a.places k.invariant.0 k.i w.if-i-gt0.true l) | else-i-gt0 w ↦ rw (w.d-is, w.units-is) (own-share a.b a.e.entries a.e.count first a.places k.invariant.0 k.i w.if-i-gt0.false) ] in it) in
-    let s = c.s-1.given in
+    let s = c.in-At in
     let xs = those a.b a.e.entries a.e.count first in
     let m : k.i < length xs = omega (arith, l, asks-long a.b a.e.entries a.e.count first a.places k.invariant.0) in
-    let e = start-read _ _ k.t a.span _ j _ (sym c.earliest_fit-s.ensures ∙ ap start_of s.1) in
+    let e = start-read _ _ k.t a.span _ j _ (sym c.earliest_fit-s.ensures ∙ ap start_of s.is) in
     let w = asks-sound a.b a.e.entries a.e.count first a.places k.invariant.0 in
-    (k.invariant.0, refl, rw c.next_asked-i.ensures (asked-on false a.span xs a.from k.t k.i w k.invariant.2 m s.0.0 e))
+    (k.invariant.0, refl, rw c.next_asked-i.ensures (asked-on false a.span xs a.from k.t k.i w k.invariant.2 m s.x e))
 
 pub returns-in-Nothing : goal.returns-in-Nothing
 unfolding start_of fit_of unbroken
