@@ -1,4 +1,6 @@
 // What is in hand while records are read: a diary, an order, a board; and what it is at the start (docs/RECORDS.md).
+#![tactic(auto)]
+
 ghost use Rattle.std.specs.Prelude.{◌≡◌};
 ghost use Rattle.record_desk.specs.Desk.{empty_order, empty_desk};
 

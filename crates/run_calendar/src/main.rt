@@ -1,5 +1,7 @@
 // Asks calendars and joint working time what a stream of records on standard input says, and writes the replies.
 // Kinds 2 and 3 are those of `slot`, 32 to 38 its own (tests/beside/README.md): it is run beside the Rust.
+#![tactic(auto)]
+
 ghost use Rattle.std.specs.Prelude.{◌≡◌, ◌+◌, ◌*◌, ◌^◌, ◌<◌, ◌≤◌, true};
 ghost use Rattle.calendar.specs.Limits.{last_asked, longest_span};
 ghost use Rattle.calendar_work.specs.Layout.{Edges};

@@ -1,5 +1,7 @@
 // The program `slot` (01): reads records from standard input and writes what they print. It only reads and writes; what a record
 // does is in `record_diary`.
+#![tactic(auto)]
+
 ghost use Rattle.std.specs.Prelude.{◌+◌, ◌≤◌};
 
 use record_diary::DiaryTurn;

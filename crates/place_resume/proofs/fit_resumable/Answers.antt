@@ -23,7 +23,7 @@ use Rattle.place_resume.specs.declared.Trial.{Trial}
 use Rattle.place_resume.proofs.Resuming.{Least}
 use Rattle.place_resume.proofs.Walking.{State, state-start, state-cell, state-asked, state-found, state-over, state-begun, Onward, onward-laid, onward-next, gathers-ruled, left, left-asked, left_laid, left-on, event-stop}
 use Rattle.place_resume.proofs.fit_resumable.Goals as goal
-use Rattle.place_resume.proofs.fit_resumable.Goals.{then-i-gt0, else-i-gt0, then-t, else-t}
+use Rattle.place_resume.proofs.fit_resumable.Goals.{then-i-gt0, else-i-gt0, then-t, else-t, then-not-t, else-not-t}
 
 module _ (work from : ℕ) (xs : List Share) (own : Calendar) (first : ResourceTimeline) (e : first ≡ (own_share own).timeline) where
   answered : (x end : ℕ) → Least (record { timeline = first; units = 1 } ∷ xs) work from x end → asking.fit x end ≡ closing true xs own work from
@@ -69,7 +69,7 @@ asked-t-requires c =
     let k = c.loop-t in
     let first = c.own_timeline-first.result in
     let l = c.if-i-n.true in
-    elim c.if-i-gt0.branch [ then-i-gt0 w ↦ rw (w.6, w.5) (read-share a.b a.e.entries a.e.count first a.places k.invariant.0 k.i w.if-i-gt0.true l) | else-i-gt0 w ↦ rw (w.2, w.1) (own-share a.b a.e.entries a.e.count first a.places k.invariant.0 k.i w.if-i-gt0.false) ] in it) in
+    elim c.if-i-gt0.branch [ then-i-gt0 w ↦ rw (w.d-is, w.units-is) (read-share a.b a.e.entries a.e.count first a.places k.invariant.0 k.i w.if-i-gt0.true l) | else-i-gt0 w ↦ rw (w.d-is, w.units-is) (own-share a.b a.e.entries a.e.count first a.places k.invariant.0 k.i w.if-i-gt0.false) ] in it) in
     let h = c.loop-t-test.true in
     let t = (k.invariant.1.walks c.if-t.true).tried h in
     (subst (λ (x : Share). valid x.timeline ≡ true) (sym j) (asks-kept a.b a.e.entries a.e.count first a.places k.invariant.0 k.i l), t.later, t.most)
@@ -84,10 +84,10 @@ loop-t-smaller-then-i-n c =
     let k = c.loop-t in
     let first = c.own_timeline-first.result in
     let l = c.if-i-n.true in
-    elim c.if-i-gt0.branch [ then-i-gt0 w ↦ rw (w.6, w.5) (read-share a.b a.e.entries a.e.count first a.places k.invariant.0 k.i w.if-i-gt0.true l) | else-i-gt0 w ↦ rw (w.2, w.1) (own-share a.b a.e.entries a.e.count first a.places k.invariant.0 k.i w.if-i-gt0.false) ] in it) in
+    elim c.if-i-gt0.branch [ then-i-gt0 w ↦ rw (w.d-is, w.units-is) (read-share a.b a.e.entries a.e.count first a.places k.invariant.0 k.i w.if-i-gt0.true l) | else-i-gt0 w ↦ rw (w.d-is, w.units-is) (own-share a.b a.e.entries a.e.count first a.places k.invariant.0 k.i w.if-i-gt0.false) ] in it) in
     let h = c.loop-t-test.true in
     let s = k.invariant.1 in
-    elim c.if-t.branch [ then-t w ↦ left-asked (instants a.b a.e.entries a.e.count first) c.if-t.t.at k.t.at c.if-t.t.laid k.t.laid (a.e.count + 1) k.i (ap (λ (x : Trial). x.at) w.3 ∙ w.1.ensures.0.0) (ap (λ (x : Trial). x.laid) w.3 ∙ w.1.ensures.0.2) l | else-t w ↦ left-asked (instants a.b a.e.entries a.e.count first) c.if-t.t.at k.t.at c.if-t.t.laid k.t.laid (a.e.count + 1) k.i (ap (λ (x : Trial). x.at) w.3) (ap (λ (x : Trial). x.laid) w.3) l ]
+    elim c.if-t.branch [ then-t w ↦ left-asked (instants a.b a.e.entries a.e.count first) c.if-t.t.at k.t.at c.if-t.t.laid k.t.laid (a.e.count + 1) k.i (ap (λ (x : Trial). x.at) w.t-is ∙ w.asked-t.ensures.at_value.0) (ap (λ (x : Trial). x.laid) w.t-is ∙ w.asked-t.ensures.at_value.2) l | else-t w ↦ left-asked (instants a.b a.e.entries a.e.count first) c.if-t.t.at k.t.at c.if-t.t.laid k.t.laid (a.e.count + 1) k.i (ap (λ (x : Trial). x.at) w.t-is) (ap (λ (x : Trial). x.laid) w.t-is) l ]
 
 pub loop-t-preserved-then-i-n : goal.loop-t-preserved-then-i-n
 loop-t-preserved-then-i-n c =
@@ -99,17 +99,16 @@ loop-t-preserved-then-i-n c =
     let k = c.loop-t in
     let first = c.own_timeline-first.result in
     let l = c.if-i-n.true in
-    elim c.if-i-gt0.branch [ then-i-gt0 w ↦ rw (w.6, w.5) (read-share a.b a.e.entries a.e.count first a.places k.invariant.0 k.i w.if-i-gt0.true l) | else-i-gt0 w ↦ rw (w.2, w.1) (own-share a.b a.e.entries a.e.count first a.places k.invariant.0 k.i w.if-i-gt0.false) ] in it) in
+    elim c.if-i-gt0.branch [ then-i-gt0 w ↦ rw (w.d-is, w.units-is) (read-share a.b a.e.entries a.e.count first a.places k.invariant.0 k.i w.if-i-gt0.true l) | else-i-gt0 w ↦ rw (w.d-is, w.units-is) (own-share a.b a.e.entries a.e.count first a.places k.invariant.0 k.i w.if-i-gt0.false) ] in it) in
     let h = c.loop-t-test.true in
     let s = k.invariant.1 in (
       k.invariant.0,
-      ⊎_elim
-          (λ w.
-          let r = w.1.result in
-          let u = w.1.ensures in
-          rw (w.2, w.3) (state-asked (those a.b a.e.entries a.e.count first) (a.e.count + 1) a.work a.from (instants a.b a.e.entries a.e.count first) k.cs k.edges k.len k.t.at k.t.end k.t.free k.t.next k.t.laid k.i s l (asks-sound a.b a.e.entries a.e.count first a.places k.invariant.0) (asks-long a.b a.e.entries a.e.count first a.places k.invariant.0) w.0.taken h r.at r.end r.free r.next r.laid _ _ (ap (λ (x : Share). x.timeline) j) (ap (λ (x : Share). x.units) j) u.0.0 u.0.1 u.0.2 u.0.3 u.1.0 u.1.1 (⊎_elim inl (λ z. inr (event-stop (those a.b a.e.entries a.e.count first) k.i r.next _ (ap (λ (x : Share). x.timeline) j) (omega (arith, u.1.0)) z)) u.1.3) u.1.2))
-          (λ w. rw (w.2, w.3) (state-cell (those a.b a.e.entries a.e.count first) (a.e.count + 1) a.work a.from (instants a.b a.e.entries a.e.count first) k.cs k.edges k.len k.t.at k.t.end k.t.free k.t.next k.t.laid k.i s l w.0.left (omega (arith, k.invariant.0.entries.few)) _ (ap (λ (x : Share). x.timeline.calendar) j)))
-          c.if-t.branch,
+      elim c.if-t.branch [
+        then-t w ↦ (let r = w.asked-t.result in
+          let u = w.asked-t.ensures in
+          rw (w.cs-is, w.t-is) (state-asked (those a.b a.e.entries a.e.count first) (a.e.count + 1) a.work a.from (instants a.b a.e.entries a.e.count first) k.cs k.edges k.len k.t.at k.t.end k.t.free k.t.next k.t.laid k.i s l (asks-sound a.b a.e.entries a.e.count first a.places k.invariant.0) (asks-long a.b a.e.entries a.e.count first a.places k.invariant.0) w.if-t.true h r.at r.end r.free r.next r.laid _ _ (ap (λ (x : Share). x.timeline) j) (ap (λ (x : Share). x.units) j) u.at_value.0 u.at_value.1 u.at_value.2 u.at_value.3 u.at_lt_next.0 u.at_lt_next.1 (⊎_elim inl (λ z. inr (event-stop (those a.b a.e.entries a.e.count first) k.i r.next _ (ap (λ (x : Share). x.timeline) j) (omega (arith, u.at_lt_next.0)) z)) u.at_lt_next.3) u.at_lt_next.2))
+      | else-t w ↦ rw (w.cs-is, w.t-is) (state-cell (those a.b a.e.entries a.e.count first) (a.e.count + 1) a.work a.from (instants a.b a.e.entries a.e.count first) k.cs k.edges k.len k.t.at k.t.end k.t.free k.t.next k.t.laid k.i s l w.if-t.false (omega (arith, k.invariant.0.entries.few)) _ (ap (λ (x : Share). x.timeline.calendar) j))
+      ],
     )
 
 pub returns-then-t-2 : goal.returns-then-t-2
@@ -141,20 +140,18 @@ slice_bounds-begun-end c = sym ((let it : Onward (those c.args.b c.args.e.entrie
     let f = c.if-t-2.false in
     let s = k.invariant.1 in
     let few : a.e.count + 1 ≤ 25 = omega (arith, q.3.few) in
-    ⊎_elim
-    (λ w.
-    let e = not-true _ w.0.taken in
-    let long : length w.1.result.edges ≡ 3201 = search rules in (
-      rw (w.3, w.4) (onward-laid (those a.b a.e.entries a.e.count first) (a.e.count + 1) a.work a.from (instants a.b a.e.entries a.e.count first) (asks-sound a.b a.e.entries a.e.count first a.places k.invariant.0) (asks-long a.b a.e.entries a.e.count first a.places k.invariant.0) k.cs k.edges k.len k.t.at k.t.end k.t.free k.t.next k.t.laid k.i s l e q.4 few w.1.result.edges w.1.result.len long w.1.ensures.0 w.1.ensures.1),
+    elim c.if-not-t.branch [
+      then-not-t w ↦ (let e = not-true _ w.if-not-t.true in
+    let long : length w.joint_time-j.result.edges ≡ 3201 = search rules in (
+      rw (w.edges-is, w.len-is) (onward-laid (those a.b a.e.entries a.e.count first) (a.e.count + 1) a.work a.from (instants a.b a.e.entries a.e.count first) (asks-sound a.b a.e.entries a.e.count first a.places k.invariant.0) (asks-long a.b a.e.entries a.e.count first a.places k.invariant.0) k.cs k.edges k.len k.t.at k.t.end k.t.free k.t.next k.t.laid k.i s l e q.4 few w.joint_time-j.result.edges w.joint_time-j.result.len long w.joint_time-j.ensures.0 w.joint_time-j.ensures.1),
       λ x p g z. left_laid (instants a.b a.e.entries a.e.count first) x k.t.at p k.t.laid (a.e.count + 1) k.i (g ∙ (s.gathers e).begin ∙ sym (s.gathers e).start) z e few,
     ))
-    (λ w.
-    let e = not-false _ w.0.left in
+    | else-not-t w ↦ (let e = not-false _ w.if-not-t.false in
     let t = (s.walks e).tried h in (
-      rw (w.1, w.2) (onward-next (those a.b a.e.entries a.e.count first) (a.e.count + 1) a.work a.from (instants a.b a.e.entries a.e.count first) (asks-sound a.b a.e.entries a.e.count first a.places k.invariant.0) (asks-long a.b a.e.entries a.e.count first a.places k.invariant.0) k.cs k.edges k.len k.t.at k.t.end k.t.free k.t.next k.t.laid k.i s l e h f),
+      rw (w.edges-is, w.len-is) (onward-next (those a.b a.e.entries a.e.count first) (a.e.count + 1) a.work a.from (instants a.b a.e.entries a.e.count first) (asks-sound a.b a.e.entries a.e.count first a.places k.invariant.0) (asks-long a.b a.e.entries a.e.count first a.places k.invariant.0) k.cs k.edges k.len k.t.at k.t.end k.t.free k.t.next k.t.laid k.i s l e h f),
       λ x p g z. left-on (instants a.b a.e.entries a.e.count first) x k.t.at p k.t.laid (a.e.count + 1) k.i (omega (arith, g, t.later)) (omega (arith, g, t.most)) (rw g t.listed) z e few,
     ))
-    c.if-not-t.branch in it)).0.wide
+    ] in it)).0.wide
 
 pub begun-t-requires : goal.begun-t-requires
 begun-t-requires c =
@@ -167,20 +164,18 @@ begun-t-requires c =
     let f = c.if-t-2.false in
     let s = k.invariant.1 in
     let few : a.e.count + 1 ≤ 25 = omega (arith, q.3.few) in
-    ⊎_elim
-    (λ w.
-    let e = not-true _ w.0.taken in
-    let long : length w.1.result.edges ≡ 3201 = search rules in (
-      rw (w.3, w.4) (onward-laid (those a.b a.e.entries a.e.count first) (a.e.count + 1) a.work a.from (instants a.b a.e.entries a.e.count first) (asks-sound a.b a.e.entries a.e.count first a.places k.invariant.0) (asks-long a.b a.e.entries a.e.count first a.places k.invariant.0) k.cs k.edges k.len k.t.at k.t.end k.t.free k.t.next k.t.laid k.i s l e q.4 few w.1.result.edges w.1.result.len long w.1.ensures.0 w.1.ensures.1),
+    elim c.if-not-t.branch [
+      then-not-t w ↦ (let e = not-true _ w.if-not-t.true in
+    let long : length w.joint_time-j.result.edges ≡ 3201 = search rules in (
+      rw (w.edges-is, w.len-is) (onward-laid (those a.b a.e.entries a.e.count first) (a.e.count + 1) a.work a.from (instants a.b a.e.entries a.e.count first) (asks-sound a.b a.e.entries a.e.count first a.places k.invariant.0) (asks-long a.b a.e.entries a.e.count first a.places k.invariant.0) k.cs k.edges k.len k.t.at k.t.end k.t.free k.t.next k.t.laid k.i s l e q.4 few w.joint_time-j.result.edges w.joint_time-j.result.len long w.joint_time-j.ensures.0 w.joint_time-j.ensures.1),
       λ x p g z. left_laid (instants a.b a.e.entries a.e.count first) x k.t.at p k.t.laid (a.e.count + 1) k.i (g ∙ (s.gathers e).begin ∙ sym (s.gathers e).start) z e few,
     ))
-    (λ w.
-    let e = not-false _ w.0.left in
+    | else-not-t w ↦ (let e = not-false _ w.if-not-t.false in
     let t = (s.walks e).tried h in (
-      rw (w.1, w.2) (onward-next (those a.b a.e.entries a.e.count first) (a.e.count + 1) a.work a.from (instants a.b a.e.entries a.e.count first) (asks-sound a.b a.e.entries a.e.count first a.places k.invariant.0) (asks-long a.b a.e.entries a.e.count first a.places k.invariant.0) k.cs k.edges k.len k.t.at k.t.end k.t.free k.t.next k.t.laid k.i s l e h f),
+      rw (w.edges-is, w.len-is) (onward-next (those a.b a.e.entries a.e.count first) (a.e.count + 1) a.work a.from (instants a.b a.e.entries a.e.count first) (asks-sound a.b a.e.entries a.e.count first a.places k.invariant.0) (asks-long a.b a.e.entries a.e.count first a.places k.invariant.0) k.cs k.edges k.len k.t.at k.t.end k.t.free k.t.next k.t.laid k.i s l e h f),
       λ x p g z. left-on (instants a.b a.e.entries a.e.count first) x k.t.at p k.t.laid (a.e.count + 1) k.i (omega (arith, g, t.later)) (omega (arith, g, t.most)) (rw g t.listed) z e few,
     ))
-    c.if-not-t.branch in it)).0 in
+    ] in it)).0 in
     (o.short, omega (arith, o.short, o.wide), c.requires.5, o.layout.edges)
 
 pub loop-t-smaller : goal.loop-t-smaller
@@ -195,20 +190,18 @@ loop-t-smaller c =
     let f = c.if-t-2.false in
     let s = k.invariant.1 in
     let few : a.e.count + 1 ≤ 25 = omega (arith, q.3.few) in
-    ⊎_elim
-    (λ w.
-    let e = not-true _ w.0.taken in
-    let long : length w.1.result.edges ≡ 3201 = search rules in (
-      rw (w.3, w.4) (onward-laid (those a.b a.e.entries a.e.count first) (a.e.count + 1) a.work a.from (instants a.b a.e.entries a.e.count first) (asks-sound a.b a.e.entries a.e.count first a.places k.invariant.0) (asks-long a.b a.e.entries a.e.count first a.places k.invariant.0) k.cs k.edges k.len k.t.at k.t.end k.t.free k.t.next k.t.laid k.i s l e q.4 few w.1.result.edges w.1.result.len long w.1.ensures.0 w.1.ensures.1),
+    elim c.if-not-t.branch [
+      then-not-t w ↦ (let e = not-true _ w.if-not-t.true in
+    let long : length w.joint_time-j.result.edges ≡ 3201 = search rules in (
+      rw (w.edges-is, w.len-is) (onward-laid (those a.b a.e.entries a.e.count first) (a.e.count + 1) a.work a.from (instants a.b a.e.entries a.e.count first) (asks-sound a.b a.e.entries a.e.count first a.places k.invariant.0) (asks-long a.b a.e.entries a.e.count first a.places k.invariant.0) k.cs k.edges k.len k.t.at k.t.end k.t.free k.t.next k.t.laid k.i s l e q.4 few w.joint_time-j.result.edges w.joint_time-j.result.len long w.joint_time-j.ensures.0 w.joint_time-j.ensures.1),
       λ x p g z. left_laid (instants a.b a.e.entries a.e.count first) x k.t.at p k.t.laid (a.e.count + 1) k.i (g ∙ (s.gathers e).begin ∙ sym (s.gathers e).start) z e few,
     ))
-    (λ w.
-    let e = not-false _ w.0.left in
+    | else-not-t w ↦ (let e = not-false _ w.if-not-t.false in
     let t = (s.walks e).tried h in (
-      rw (w.1, w.2) (onward-next (those a.b a.e.entries a.e.count first) (a.e.count + 1) a.work a.from (instants a.b a.e.entries a.e.count first) (asks-sound a.b a.e.entries a.e.count first a.places k.invariant.0) (asks-long a.b a.e.entries a.e.count first a.places k.invariant.0) k.cs k.edges k.len k.t.at k.t.end k.t.free k.t.next k.t.laid k.i s l e h f),
+      rw (w.edges-is, w.len-is) (onward-next (those a.b a.e.entries a.e.count first) (a.e.count + 1) a.work a.from (instants a.b a.e.entries a.e.count first) (asks-sound a.b a.e.entries a.e.count first a.places k.invariant.0) (asks-long a.b a.e.entries a.e.count first a.places k.invariant.0) k.cs k.edges k.len k.t.at k.t.end k.t.free k.t.next k.t.laid k.i s l e h f),
       λ x p g z. left-on (instants a.b a.e.entries a.e.count first) x k.t.at p k.t.laid (a.e.count + 1) k.i (omega (arith, g, t.later)) (omega (arith, g, t.most)) (rw g t.listed) z e few,
     ))
-    c.if-not-t.branch in it)).1 _ _ u.0 u.2
+    ] in it)).1 _ _ u.0 u.2
 
 pub loop-t-preserved : goal.loop-t-preserved
 loop-t-preserved c =
@@ -227,20 +220,18 @@ loop-t-preserved c =
           let f = c.if-t-2.false in
           let s = k.invariant.1 in
           let few : a.e.count + 1 ≤ 25 = omega (arith, q.3.few) in
-          ⊎_elim
-          (λ w.
-          let e = not-true _ w.0.taken in
-          let long : length w.1.result.edges ≡ 3201 = search rules in (
-            rw (w.3, w.4) (onward-laid (those a.b a.e.entries a.e.count first) (a.e.count + 1) a.work a.from (instants a.b a.e.entries a.e.count first) (asks-sound a.b a.e.entries a.e.count first a.places k.invariant.0) (asks-long a.b a.e.entries a.e.count first a.places k.invariant.0) k.cs k.edges k.len k.t.at k.t.end k.t.free k.t.next k.t.laid k.i s l e q.4 few w.1.result.edges w.1.result.len long w.1.ensures.0 w.1.ensures.1),
+          elim c.if-not-t.branch [
+      then-not-t w ↦ (let e = not-true _ w.if-not-t.true in
+          let long : length w.joint_time-j.result.edges ≡ 3201 = search rules in (
+            rw (w.edges-is, w.len-is) (onward-laid (those a.b a.e.entries a.e.count first) (a.e.count + 1) a.work a.from (instants a.b a.e.entries a.e.count first) (asks-sound a.b a.e.entries a.e.count first a.places k.invariant.0) (asks-long a.b a.e.entries a.e.count first a.places k.invariant.0) k.cs k.edges k.len k.t.at k.t.end k.t.free k.t.next k.t.laid k.i s l e q.4 few w.joint_time-j.result.edges w.joint_time-j.result.len long w.joint_time-j.ensures.0 w.joint_time-j.ensures.1),
             λ x p g z. left_laid (instants a.b a.e.entries a.e.count first) x k.t.at p k.t.laid (a.e.count + 1) k.i (g ∙ (s.gathers e).begin ∙ sym (s.gathers e).start) z e few,
           ))
-          (λ w.
-          let e = not-false _ w.0.left in
+    | else-not-t w ↦ (let e = not-false _ w.if-not-t.false in
           let t = (s.walks e).tried h in (
-            rw (w.1, w.2) (onward-next (those a.b a.e.entries a.e.count first) (a.e.count + 1) a.work a.from (instants a.b a.e.entries a.e.count first) (asks-sound a.b a.e.entries a.e.count first a.places k.invariant.0) (asks-long a.b a.e.entries a.e.count first a.places k.invariant.0) k.cs k.edges k.len k.t.at k.t.end k.t.free k.t.next k.t.laid k.i s l e h f),
+            rw (w.edges-is, w.len-is) (onward-next (those a.b a.e.entries a.e.count first) (a.e.count + 1) a.work a.from (instants a.b a.e.entries a.e.count first) (asks-sound a.b a.e.entries a.e.count first a.places k.invariant.0) (asks-long a.b a.e.entries a.e.count first a.places k.invariant.0) k.cs k.edges k.len k.t.at k.t.end k.t.free k.t.next k.t.laid k.i s l e h f),
             λ x p g z. left-on (instants a.b a.e.entries a.e.count first) x k.t.at p k.t.laid (a.e.count + 1) k.i (omega (arith, g, t.later)) (omega (arith, g, t.most)) (rw g t.listed) z e few,
           ))
-          c.if-not-t.branch in it)).0 r.at r.end r.free r.next r.laid u.0 u.1 u.2 u.3,
+    ] in it)).0 r.at r.end r.free r.next r.laid u.0 u.1 u.2 u.3,
     )
 
 pub returns : goal.returns

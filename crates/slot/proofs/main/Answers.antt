@@ -1,0 +1,18 @@
+use borrow.Author.Rules.{rules}
+use native.Mathlib.Omega.{arith}
+use Prim.Native.Nat.{◌≤◌}
+use borrow.Author.Tests.{ltb-true}
+use Rattle.record_streams.specs.Input.{Lies}
+use Rattle.slot.proofs.main.Goals as goal
+
+pub loop-more-init : goal.loop-more-init
+loop-more-init c = (record { low = omega arith; high = omega arith }, omega arith)
+
+pub loop-more-smaller : goal.loop-more-smaller
+loop-more-smaller c = omega (arith, ltb-true 0 c.loop-more.turns c.if-turns-gt0.true)
+
+pub loop-more-preserved : goal.loop-more-preserved
+loop-more-preserved c =
+    let n = c.next-r.ensures in
+    let l = c.supply-s.ensures.lies in
+    (record { low = n; high = l.high }, c.print-used.ensures)
