@@ -1,5 +1,7 @@
 // Four asks for runs beside the Rust (tests/beside/README.md, kinds 40 to 43): the durations of the order in hand, the setup on a
 // resource, the transport to one, and whether one serves a requirement.
+#![tactic(auto)]
+
 ghost use Rattle.std.specs.Prelude.{◌≡◌, ◌+◌, ◌<◌, ◌≤◌, true, length};
 ghost use Rattle.activity.specs.Check.{reply_of};
 ghost use Rattle.board.specs.Valid.{last_right};

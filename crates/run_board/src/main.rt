@@ -1,6 +1,8 @@
 // Asks durations, setups, transports and servings of what a stream of records on standard input says, and writes the answers. Kinds 1 to 4
 // and 16 to 24 are those of `offer`, 40 to 43 its own (tests/beside/README.md): it is run beside the Rust. It only reads and writes; what
 // a record does is in `record_board`, what an ask answers in `record_queries`.
+#![tactic(auto)]
+
 ghost use Rattle.std.specs.Prelude.{◌≤◌};
 
 use record_desk::Desk;
