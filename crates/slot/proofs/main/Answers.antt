@@ -9,7 +9,7 @@ pub loop-more-init : goal.loop-more-init
 loop-more-init c = (record { low = omega arith; high = omega arith }, omega arith)
 
 pub loop-more-smaller : goal.loop-more-smaller
-loop-more-smaller c = omega (arith, ltb-true 0 c.loop-more.turns c.if-turns-gt0.true)
+loop-more-smaller c = omega arith
 
 pub loop-more-preserved : goal.loop-more-preserved
 loop-more-preserved c =
