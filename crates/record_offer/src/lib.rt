@@ -1,5 +1,7 @@
 // What a record of a stream does in `offer` (docs/RECORDS.md, kinds 1 to 4 and 16 to 26): to a diary in hand, an order in hand, a board
 // and a slate.
+#![tactic(auto)]
+
 ghost use Rattle.std.specs.Prelude.{◌≡◌, ◌+◌, ◌≤◌, length};
 ghost use Rattle.scheduler.specs.Placing.{slate_after};
 ghost use Rattle.record_offer.specs.Offers.{offer_len, answer_of, placing as placing_of, placed_answer, commit_does};
