@@ -1,0 +1,17 @@
+use borrow.Author.Rules.{rules}
+use native.Mathlib.Omega.{arith}
+use borrow.Author.Tests.{ltb-true}
+use Rattle.record_streams.specs.Input.{Lies}
+use Rattle.run_board.proofs.main.Goals as goal
+
+pub loop-more-init : goal.loop-more-init
+loop-more-init c = record { low = omega arith; high = omega arith }
+
+pub loop-more-smaller : goal.loop-more-smaller
+loop-more-smaller c = omega arith
+
+pub loop-more-preserved : goal.loop-more-preserved
+loop-more-preserved c =
+    let n = c.next-r.ensures in
+    let l = c.supply-s.ensures.lies in
+    record { low = n; high = l.high }
