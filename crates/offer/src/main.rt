@@ -1,5 +1,7 @@
 // Places and commits orders on a board, by a stream of records on standard input, and writes the answers (docs/RECORDS.md, kinds 1 to 4
 // and 16 to 26). It only reads and writes; what a record does is in `record_offer`, what it prints in `record_offer_text`.
+#![tactic(auto)]
+
 ghost use Rattle.std.specs.Prelude.{◌+◌, ◌≤◌};
 ghost use Rattle.record_offer.specs.Offers.{shown};
 ghost use Rattle.record_offer_text.specs.Lines.{text_most};
