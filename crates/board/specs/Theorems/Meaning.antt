@@ -120,35 +120,9 @@ greatest-small on b v origins to (suc n) l m = rw (greatest-next on b.transport 
     go false h = omega arith
 
 -- a setup is at most 2^36
-entry-small : (present : Bool) (z : ℤ) (other : ℕ) → entry_cell present z ≡ true → other ≤ 2 ^ 36 → entry_or z other ≤ 2 ^ 36
-unfolding entry_right is_zero entry_or
-entry-small true (pos n) other h l = leb-true n (2 ^ 36) h
-entry-small false (pos n) other h l = omega (arith, eqb-true n 0 h)
-entry-small present (negsuc n) other h l = l
-
-own-small : (present : Bool) (z : ℤ) → own_right present z ≡ true → entry_or z 0 ≤ 2 ^ 36
-unfolding duration_right is_zero entry_or
-own-small true (pos n) h = leb-true n (2 ^ 36) h
-own-small false (pos n) h = omega (arith, eqb-true n 0 h)
-own-small present (negsuc n) h = omega arith
-
-by-matrix : (m : TransitionMatrix) (last : LastCategory) (this : ℕ) → own_right m.present m.default ≡ true → own_right m.present m.initial ≡ true
-    → every_from (λ i. entry_cell m.present (get_or m.transitions i (pos 0))) 0 256 ≡ true → every_from (λ i. entry_cell m.present (get_or m.initials i (pos 0))) 0 16 ≡ true
-    → last_right last ≡ true → this ≤ 15 → matrix_setup m last this ≤ 2 ^ 36
-unfolding matrix_setup last_right
-by-matrix m Nothing this d i ts is r l =
-    entry-small m.present (get_or m.initials this (pos 0)) (entry_or m.initial 0) (from_at _ 0 16 is this (omega arith) (omega arith)) (own-small m.present m.initial i)
-by-matrix m (Category c) this d i ts is r l =
-    let small : c ≤ 15 = leb-true c 15 r in
-    entry-small m.present (get_or m.transitions (16 * c + this) (pos 0)) _ (from_at _ 0 256 ts (16 * c + this) (omega arith) (omega arith)) (other (eqb c this))
-  where
-    other : (t : Bool) → cond t 0 (entry_or m.default 0) ≤ 2 ^ 36
-    other true = omega arith
-    other false = own-small m.present m.default d
-
 pub setup-small : (m : TransitionMatrix) (last : LastCategory) (this own : ℕ) → matrix_right m ≡ true → last_right last ≡ true → this ≤ 15 → own ≤ 2 ^ 36
     → setup_ms m last this own ≤ 2 ^ 36
-unfolding setup_ms matrix_right
+unfolding setup_ms matrix_setup matrix_right last_right duration_right entry_right is_zero entry_or
 setup-small m last this own h r l o = go m.present refl
   where
     p : Bool
@@ -167,9 +141,30 @@ setup-small m last this own h r l o = go m.present refl
         let h3 = and_split (every_from ts 0 256) (every_from is 0 16) h2.1 in
         (h1.0, h2.0, h3.0, h3.1)
 
+    entry-small : (present : Bool) (z : ℤ) (other : ℕ) → entry_cell present z ≡ true → other ≤ 2 ^ 36 → entry_or z other ≤ 2 ^ 36
+    entry-small true (pos n) other e k = leb-true n (2 ^ 36) e
+    entry-small false (pos n) other e k = omega (arith, eqb-true n 0 e)
+    entry-small present (negsuc n) other e k = k
+
+    own-small : (present : Bool) (z : ℤ) → own_right present z ≡ true → entry_or z 0 ≤ 2 ^ 36
+    own-small true (pos n) e = leb-true n (2 ^ 36) e
+    own-small false (pos n) e = omega (arith, eqb-true n 0 e)
+    own-small present (negsuc n) e = omega arith
+
+    by-matrix : (k : LastCategory) → last_right k ≡ true → matrix_setup m k this ≤ 2 ^ 36
+    by-matrix Nothing e =
+        entry-small p (get_or m.initials this (pos 0)) (entry_or m.initial 0) (from_at _ 0 16 parts.3 this (omega arith) (omega arith)) (own-small p m.initial parts.1)
+    by-matrix (Category c) e =
+        let small : c ≤ 15 = leb-true c 15 e in
+        entry-small p (get_or m.transitions (16 * c + this) (pos 0)) _ (from_at _ 0 256 parts.2 (16 * c + this) (omega arith) (omega arith)) (other (eqb c this))
+      where
+        other : (t : Bool) → cond t 0 (entry_or m.default 0) ≤ 2 ^ 36
+        other true = omega arith
+        other false = own-small p m.default parts.0
+
     go : (t : Bool) → m.present ≡ t → cond t (matrix_setup m last this) own ≤ 2 ^ 36
     go false e = o
-    go true e = by-matrix m last this parts.0 parts.1 parts.2 parts.3 r l
+    go true e = by-matrix last r
 
 pub new-keeps : valid empty_board ≡ true
 unfolding empty_board transport_right lookup_to least_from is_at

@@ -4,24 +4,24 @@ use Rattle.std.proofs.Common.{sym, ap, ◌∙◌, append_assoc, append-nil, add-
 use Rattle.record_texts.specs.Text.{written, Put}
 
 -- a text behind a text is both in one
-written_then : (d s t : List ℕ) (i : ℕ) → i + length s ≤ length d → written (written d i s) (i + length s) t ≡ written d i (s ++ t)
-unfolding written
-written_then d s t i h =
-    let p : length (take i d ++ s) ≡ i + length s = rw (length-append, length-take-le i d (omega arith)) in
-    let e : i + length s + length t ≡ i + length (s ++ t) = omega (arith, length-append s t) in
-    let q : drop (i + length s + length t) (take i d ++ s ++ drop (i + length s) d) ≡ drop (i + length (s ++ t)) d =
-    sym (drop-drop (length t) (i + length s) (take i d ++ s ++ drop (i + length s) d))
-    ∙ ap (drop (length t)) (drop_at (take i d ++ s) (drop (i + length s) d) (i + length s) p)
-    ∙ drop-drop (length t) (i + length s) d
-    ∙ ap (λ (k : ℕ). drop k d) e in
-    rw (q, take_at (take i d ++ s) (drop (i + length s) d) (i + length s) p, append_assoc (take i d) s t)
-
 pub then : {d s x t y : List ℕ} {i j k : ℕ} → j ≤ length d → Put d i s x j → Put x j t y k → Put d i (s ++ t) y k
+unfolding written
 then {d} {s} {x} {t} {y} {i} {j} {k} h p q =
     record {
-      bytes = q.bytes ∙ ap (λ (l : List ℕ). written l j t) p.bytes ∙ ap (λ (n : ℕ). written (written d i s) n t) p.end ∙ written_then d s t i (omega (arith, p.end));
+      bytes = q.bytes ∙ ap (λ (l : List ℕ). written l j t) p.bytes ∙ ap (λ (n : ℕ). written (written d i s) n t) p.end ∙ both (omega (arith, p.end));
       end = omega (arith, p.end, q.end, length-append s t);
     }
+  where
+    both : i + length s ≤ length d → written (written d i s) (i + length s) t ≡ written d i (s ++ t)
+    both l =
+        let p : length (take i d ++ s) ≡ i + length s = rw (length-append, length-take-le i d (omega arith)) in
+        let e : i + length s + length t ≡ i + length (s ++ t) = omega (arith, length-append s t) in
+        let q : drop (i + length s + length t) (take i d ++ s ++ drop (i + length s) d) ≡ drop (i + length (s ++ t)) d =
+        sym (drop-drop (length t) (i + length s) (take i d ++ s ++ drop (i + length s) d))
+        ∙ ap (drop (length t)) (drop_at (take i d ++ s) (drop (i + length s) d) (i + length s) p)
+        ∙ drop-drop (length t) (i + length s) d
+        ∙ ap (λ (k : ℕ). drop k d) e in
+        rw (q, take_at (take i d ++ s) (drop (i + length s) d) (i + length s) p, append_assoc (take i d) s t)
 
 -- no text leaves the buffer as it was
 pub put-none : (d : List ℕ) (i : ℕ) → Put d i [] d i
