@@ -4,7 +4,7 @@
 
 use calendar::Calendar;
 
-pub mod core;
+pub mod basics;
 pub mod order;
 mod timing;
 

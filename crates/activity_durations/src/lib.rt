@@ -41,5 +41,5 @@ pub fn duration_on(activity: Activity, held: [u8; 8], count: usize) -> DurationA
     }
     let base = activity.duration;
     let timings = activity.timings;
-    DurationAnswer::Lasts(activity::core::duration_on(base, timings, held, count))
+    DurationAnswer::Lasts(activity::basics::duration_on(base, timings, held, count))
 }

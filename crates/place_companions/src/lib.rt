@@ -130,7 +130,7 @@ pub fn member_of(
 {
     let companions = p.companions;
     let mut place: usize = 16;
-    if activity::core::serves(q, p.number, p.kind, p.skills) {
+    if activity::basics::serves(q, p.number, p.kind, p.skills) {
         place = seat_of(own, companions, p.count, places, g.next);
     }
     let from = cells::later(t, p.arrival);

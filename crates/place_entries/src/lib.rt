@@ -134,7 +134,7 @@ pub fn entries_of(plans: [Plan; 16], a: Activity, held: [Selection; 8], count: u
     let base = a.duration;
     let timings = a.timings;
     let numbers = p.numbers;
-    let d = activity::core::duration_on(base, timings, numbers, count);
+    let d = activity::basics::duration_on(base, timings, numbers, count);
     let e = held_entries(p, held, count, d.setup);
     let span = greatest_setup(e) + d.process + d.teardown;
     let list = p.companions;

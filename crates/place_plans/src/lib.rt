@@ -52,7 +52,7 @@ pub fn plan_of(r: Resource, a: Activity, ready: u64, transport: &[u64; 256]) -> 
 {
     let base = a.duration;
     let timings = a.timings;
-    let d = activity::core::duration_on(base, timings, [r.number; 8], 1);
+    let d = activity::basics::duration_on(base, timings, [r.number; 8], 1);
     let matrix = r.matrix;
     let last = r.last;
     let companions = r.companions;

@@ -78,7 +78,7 @@ pub fn place_activity(b: Board, a: Activity, ready: u64, slate: &mut [Row]) -> P
     }
     let places = p.places;
     let release = a.release;
-    let mut t = activity::core::ready_of(release, ready);
+    let mut t = activity::basics::ready_of(release, ready);
     let mut span = a.duration.setup + a.duration.process + a.duration.teardown;
     let mut e = place_entries::no_entries();
     if a.len != 0 {

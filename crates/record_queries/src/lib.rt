@@ -92,7 +92,7 @@ fn serves(board: Board, requirement: ResourceRequirement, number: u8) -> QueryAn
     }
     let i = p.place;
     let r = board.resources[i];
-    if activity::core::serves(requirement, number, r.kind, r.skills) {
+    if activity::basics::serves(requirement, number, r.kind, r.skills) {
         return QueryAnswer::Serves;
     }
     QueryAnswer::No

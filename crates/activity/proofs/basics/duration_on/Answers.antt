@@ -5,7 +5,7 @@ use lib.Ieee.{of_bits}
 use Rattle.activity_speeds.proofs.Bounds.{within_more}
 use Rattle.activity.specs.Lawful.{leading_of}
 use Rattle.activity.specs.Laws.Holding.{Walk, walk_start, walk_step, walk-own, walk-base}
-use Rattle.activity.proofs.core.duration_on.Goals as goal
+use Rattle.activity.proofs.basics.duration_on.Goals as goal
 
 -- the number of the resource held at i
 number : (c : goal.In-loop-i) → get_or c.args.held c.loop-i.i 0 < 16

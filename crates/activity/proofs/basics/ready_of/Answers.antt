@@ -1,4 +1,4 @@
--- `activity::core::ready_of` meets its contract.
+-- `activity::basics::ready_of` meets its contract.
 use borrow.Author.Rules.{rules}
 use Rattle.std.specs.Prelude.{◌≡◌, ℕ, max}
 use mathlib.Core.Path.{sym, ap, ◌∙◌}
@@ -6,7 +6,7 @@ use native.Mathlib.Omega.{arith}
 use Rattle.activity.specs.declared.Release.{Release}
 use Rattle.activity.specs.declared.Release.TheVariants.{At}
 use Rattle.activity.specs.Ready.{ready_of}
-use Rattle.activity.proofs.core.ready_of.Goals as goal
+use Rattle.activity.proofs.basics.ready_of.Goals as goal
 
 released : (r : Release) (from ready later : ℕ) → r ≡ At from → later ≡ max ready from → later ≡ ready_of r ready
 unfolding ready_of

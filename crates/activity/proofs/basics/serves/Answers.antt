@@ -1,4 +1,4 @@
--- `activity::core::serves` meets its contract.
+-- `activity::basics::serves` meets its contract.
 use borrow.Author.Rules.{rules}
 use borrow.Author.Tests.{eq-eqb, ne_eqb}
 use Rattle.std.specs.Prelude.{◌≡◌, ℕ, ◌/◌, ◌^◌, ◌<◌, false, eqb}
@@ -10,7 +10,7 @@ use Rattle.activity.specs.Serving.{candidate, serves}
 use Rattle.activity.specs.Laws.Masks.{covers-yes, covers-no}
 use Rattle.calendar.specs.Sets.{bit}
 use Rattle.calendar.specs.Laws.Sets.{bit-and}
-use Rattle.activity.proofs.core.serves.Goals as goal
+use Rattle.activity.proofs.basics.serves.Goals as goal
 
 -- a required bit is missing
 unskilled : (q : ResourceRequirement) (number kind skills : ℕ) → q.skills < 2 ^ 64 → (bit_and q.skills skills ≡ q.skills → ⊥) → false ≡ serves q number kind skills
