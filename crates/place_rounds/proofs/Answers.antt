@@ -16,7 +16,7 @@ use Rattle.board.specs.declared.Board.{Board}
 use Rattle.board.specs.Resources.{no_resource, resource_at}
 use Rattle.board.specs.Valid as board
 use Rattle.scheduler.specs.Alone.{duration_alone, start_alone}
-use Rattle.scheduler.specs.Laws.Answering.{told}
+use Rattle.scheduler.proofs.Laws.Answering.{told}
 use Rattle.scheduler.specs.Choosing as scheduler
 use Rattle.cells.specs.Every.{Each, each_end}
 use Rattle.scheduler.specs.Laws.Ruled.{all_there}

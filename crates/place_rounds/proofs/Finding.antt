@@ -24,9 +24,10 @@ use Rattle.scheduler.specs.Plain.{starts_there}
 use Rattle.cells.specs.Laws.Arrays.{each_at}
 use Rattle.scheduler.specs.Laws.Together.{Sound}
 use Rattle.scheduler.specs.Laws.Latest.{last-small}
-use Rattle.scheduler.specs.Laws.Ruled.{all-kept, all_there}
+use Rattle.scheduler.proofs.Laws.Ruled.{all-kept}
+use Rattle.scheduler.specs.Laws.Ruled.{all_there}
 use Rattle.calendar.specs.Laws.Searching.{answers-same, not_at, least-found}
-use Rattle.scheduler.specs.Laws.Answering.{KeepsRules, alone-answers}
+use Rattle.scheduler.proofs.Laws.Answering.{KeepsRules, alone-answers}
 use Rattle.place_rounds.specs.Tables.{found_at, number_of}
 
 -- span and arrival of a resource alone are in range

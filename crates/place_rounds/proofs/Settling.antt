@@ -18,11 +18,12 @@ use Rattle.board.specs.Valid.{valid}
 use Rattle.scheduler.specs.declared.Selection.{Selection}
 use Rattle.scheduler.specs.Choosing as scheduler
 use Rattle.scheduler.specs.Selections.{no_selection, held_of, held_to, OnPlaces}
-use Rattle.scheduler.specs.Theorems.Counting.{instants-few, instants-fall}
+use Rattle.scheduler.specs.Theorems.Counting.{instants-few}
+use Rattle.scheduler.proofs.Theorems.Counting.{instants-fall}
 use Rattle.cells.specs.Laws.Arrays.{each_at}
 use Rattle.cells.specs.Every.{Each}
 use Rattle.cells.specs.Laws.Each.{each_weaken, each-in-map}
-use Rattle.scheduler.specs.Laws.Rounds.{greatest-le}
+use Rattle.scheduler.proofs.Laws.Rounds.{greatest-le}
 use Rattle.place_rounds.specs.declared.Selections.{Selections}
 use Rattle.place_rounds.specs.declared.Rounds.{Rounds}
 use Rattle.place_rounds.specs.Rounds.{Led, Fewer, round_of, choice_of, Lasting, Chosen, Settled}

@@ -20,7 +20,7 @@ use Rattle.cells.specs.Every.{Each}
 use Rattle.cells.specs.Laws.Each.{each_all, each_append, each-in-map}
 use Rattle.cells.specs.Laws.Arrays.{each_at, each-cells}
 use Rattle.scheduler.specs.Plain.{Chooses, enough, held_at}
-use Rattle.scheduler.specs.Theorems.Meaning.{choosing-means}
+use Rattle.scheduler.proofs.Theorems.Meaning.{choosing-means}
 use Rattle.activity.specs.Laws.Judging.{some-of-each}
 use Rattle.scheduler.specs.Laws.Reported.{held-at-whole, entries-on}
 use Rattle.place_fit.specs.Closing.{EntriesOn}

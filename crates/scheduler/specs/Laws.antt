@@ -1,20 +1,13 @@
 -- Lemmas on sorting; on least starts of several diaries; on choosing and the closing fit; on alike boards; on commitments.
 pub mod Ranking
-pub mod Dropping
 pub mod Together
 pub mod Events
-pub mod Answering
 pub mod Latest
 pub mod Asking
 pub mod Owning
-pub mod Rounds
-pub mod Chosen
 pub mod Ruled
 pub mod Reported
 pub mod Closing
 pub mod Counting
 pub mod AlikeDiaries
-pub mod AlikeResources
-pub mod AlikeHeld
-pub mod AlikePlacing
 pub mod Committed

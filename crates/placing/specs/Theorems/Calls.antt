@@ -15,7 +15,8 @@ use Rattle.scheduler.specs.Rows.{Row, row_of, number_in}
 use Rattle.cells.specs.Every.{Each}
 use Rattle.cells.specs.Laws.Each.{each-of-map}
 use Rattle.scheduler.specs.Alike.{Alike, NoExtra}
-use Rattle.scheduler.specs.Theorems.Demand3.{Demand3, demand-3}
+use Rattle.scheduler.specs.Theorems.Demand3.{Demand3}
+use Rattle.scheduler.proofs.Theorems.Demand3.{demand-3}
 use Rattle.placing.specs.declared.Placed.{Placed}
 use Rattle.placing.specs.declared.PlaceReply.{PlaceReply}
 use Rattle.placing.specs.declared.PlaceReply.TheVariants as reply

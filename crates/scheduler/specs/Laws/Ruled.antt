@@ -1,19 +1,18 @@
 -- What a board that keeps the rules gives: sound diaries, and at most 2,064 instants at which a resource can first start.
-use Rattle.std.specs.Prelude.{◌≡◌, ◌||◌, get_or, length, take, eqb}
+use Rattle.std.specs.Prelude.{◌≡◌, length, take}
 use Rattle.std.proofs.Math.Path.{refl}
-use Rattle.std.proofs.Common.{sym, ap, ◌∙◌, arith, get_or-take, eq-eqb, eqb-true}
+use Rattle.std.proofs.Common.{sym, ap, ◌∙◌, arith, get_or-take}
 use Rattle.std.proofs.Math.Bool.{true}
 use mathlib.Core.List.{List, [], ◌∷◌, ◌++◌, map}
 use Rattle.std.proofs.Math.Logic.{⊎_elim}
-use Prim.Native.Nat.{ℕ, zero, suc, ◌*◌, ◌≤◌, ◌<◌}
+use Prim.Native.Nat.{ℕ, ◌*◌, ◌≤◌, ◌<◌}
 use Rattle.std.proofs.Math.ListN.{length-append, length-map, length-take, get_or-eq_default}
-use Rattle.cells.specs.Laws.Basics.{not-both, lt-or-ge, or-in-left, or-in-right, or_cases}
+use Rattle.cells.specs.Laws.Basics.{not-both, lt-or-ge}
 use Rattle.calendar.specs.Search.{Found, at}
 use Rattle.calendar.specs.Laws.Rules as calendar
 use Rattle.timeline.specs.declared.ResourceTimeline.{ResourceTimeline}
 use Rattle.timeline.specs.Valid as timeline
 use Rattle.timeline.specs.Laws.Rules as timeline-rules
-use Rattle.activity.specs.declared.ResourceRequirement.{ResourceRequirement}
 use Rattle.activity.specs.declared.Activity.{Activity}
 use Rattle.cells.specs.Every.{every, Each, each_end, each_on}
 use Rattle.board.specs.declared.Resource.{Resource}
@@ -29,21 +28,12 @@ use Rattle.scheduler.specs.Fitting.{among, share_of, shares_of}
 use Rattle.cells.specs.Laws.Each.{each-every, each_weaken, each-in-map}
 use Rattle.cells.specs.Laws.Arrays.{each-cells}
 use Rattle.scheduler.specs.Laws.Together.{Sound}
-use Rattle.scheduler.specs.Laws.Answering.{KeepsRules}
 use Rattle.scheduler.specs.Instants.{events, events_in, events_of, events_on, points}
-use Rattle.scheduler.specs.Laws.Events.{event-among, among-left, among-right, among_cases}
-use Rattle.scheduler.specs.Laws.Chosen.{Listed}
+use Rattle.scheduler.specs.Laws.Events.{event-among, among_cases}
 
 pub place-event : (b : Board) (i x : ℕ) → i < b.len → among x (events (resource_at b i).timeline) ≡ true → among x (events_on b) ≡ true
 unfolding events_on events
 place-event b i x l e = event-among (λ r. r.timeline) no_resource refl (resources_of b) i x (rw (get_or-take b.len b.resources i no_resource l) e)
-
-arrival-on : (f : Resource → ℕ) (n : ℕ) (xs : List Resource) (i : ℕ) → i < n → i < length xs → among (f (get_or xs i no_resource)) (map f (take n xs)) ≡ true
-unfolding among
-arrival-on f n [] i l m = absurd (omega arith)
-arrival-on f zero (r ∷ rs) i l m = absurd (omega arith)
-arrival-on f (suc n) (r ∷ rs) zero l m = or-in-left (eqb (f r) (f r)) (among (f r) (map f (take n rs))) (eq-eqb (f r) (f r) refl)
-arrival-on f (suc n) (r ∷ rs) (suc i) l m = or-in-right (eqb (f r) (f (get_or rs i no_resource))) (among (f (get_or rs i no_resource)) (map f (take n rs))) (arrival-on f n rs i (omega arith) (omega arith))
 
 -- a diary that keeps the rules has at most 128 events
 events-length : (t : ResourceTimeline) → timeline.valid t ≡ true → length (events t) ≤ 128
@@ -141,28 +131,6 @@ module _ (b : Board) (v : board.valid b ≡ true) where
       omega (arith, n, length-map (resources_of b) (λ (r : Resource). r.timeline), length-take b.len b.resources, (rules_of b v).few)
 
   module _ (a : Activity) (ready : ℕ) where
-    pub all-kept : (q : ResourceRequirement) → Each (KeepsRules b a ready q) (resources_of b)
-    all-kept q = each-cells (KeepsRules b a ready q) no_resource b.len b.resources (λ i l m e. seated-sound (with_companions b (resource_at b i) q.usage) (all-seated i q.usage l e))
-
-    pub all_listed : (q : ResourceRequirement) → Each (Listed b a ready all-kept (points b a ready) q) (resources_of b)
-    unfolding points among
-    all_listed q = each-cells (Listed b a ready all-kept (points b a ready) q) no_resource b.len b.resources one
-      where
-        first : List ℕ
-        first = map (arrival b a ready) (resources_of b)
-
-        one : (i : ℕ) → i < b.len → i < length b.resources → every (on_board b) (companions_of (resource_at b i)) ≡ true
-            → (x : ℕ) → eqb (arrival b a ready (resource_at b i)) x || among x (events_of (with_companions b (resource_at b i) q.usage)) ≡ true → among x (points b a ready) ≡ true
-        one i l m e x h =
-            let r = resource_at b i in
-            let xs = with_companions b r q.usage in
-            ⊎_elim
-            (λ (k : eqb (arrival b a ready r) x ≡ true).
-            let z : arrival b a ready r ≡ x = eqb-true (arrival b a ready r) x k in
-            among-left x first (events_on b) (ap (λ (y : ℕ). among y first) (sym z) ∙ arrival-on (arrival b a ready) b.len b.resources i l m))
-            (λ (k : among x (events_of xs) ≡ true). among-right x first (events_on b) (seated-events xs (all-seated i q.usage l e) x k))
-            (or_cases (eqb (arrival b a ready r) x) (among x (events_of xs)) h)
-
     -- 16 arrivals, and 128 events on each of 16 diaries
     pub points-length : length (points b a ready) ≤ 2064
     unfolding points

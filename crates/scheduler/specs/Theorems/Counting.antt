@@ -1,6 +1,6 @@
 -- The rounds of choosing, of companions and of the closing fit end within 2,129 instants, as 01 counts them: ready, 16 arrivals, 128
 -- events on each of 16 diaries, and 64 on the order's own calendar. So the Rust's 10,000 rounds are never met.
-use Rattle.std.specs.Prelude.{◌≡◌, refl, Bool, ℕ, ◌≤◌, ◌<◌, length, get_or}
+use Rattle.std.specs.Prelude.{◌≡◌, refl, Bool, ℕ, ◌≤◌, ◌<◌, length}
 use Rattle.std.proofs.Math.Path.{sym}
 use Rattle.std.proofs.Math.Bool.{true, false}
 use mathlib.Core.List.{List, [], ◌∷◌, ◌++◌, map}
@@ -13,53 +13,29 @@ use Rattle.calendar.specs.Valid as calendar
 use Rattle.calendar.specs.Laws.Rules as calendar-rules
 use Rattle.timeline.specs.Valid as timeline
 use Rattle.timeline.specs.Diary.{diary}
-use Rattle.activity.specs.declared.ResourceRequirement.{ResourceRequirement}
 use Rattle.activity.specs.declared.Activity.{Activity}
-use Rattle.activity.specs.Check.{no_requirement, requirements_of}
 use Rattle.board.specs.declared.Board.{Board}
 use Rattle.board.specs.Resources.{on_board}
 use Rattle.board.specs.Valid as board
 use Rattle.scheduler.specs.Alone.{Share, all_start, earliest_of}
-use Rattle.scheduler.specs.Choosing.{Held, holds, round, greatest_start, rounds, choosing}
 use Rattle.scheduler.specs.declared.Entry.{Entry}
 use Rattle.scheduler.specs.Fitting.{among, shares_of, suits, fitting}
-use Rattle.scheduler.specs.Plain.{enough, held_at}
 use Rattle.cells.specs.Every.{Each, each_on}
 use Rattle.cells.specs.Laws.Each.{each-in-map}
 use Rattle.scheduler.specs.Laws.Together.{Sound, together-answers}
 use Rattle.calendar.specs.Laws.Searching.{answers-same}
 use Rattle.scheduler.specs.Instants.{events, events_in, events_of, above, events_on, points, latest_of, steps}
 use Rattle.scheduler.specs.Laws.Events.{among-left, among-right, among_cases, above-length}
-use Rattle.scheduler.specs.Laws.Chosen.{round-falls, rounds-mean}
-use Rattle.scheduler.specs.Laws.Ruled.{events-count, entries-seated, entries-valid, seated-events, all-kept, all_listed, points-length, events-board}
+use Rattle.scheduler.specs.Laws.Ruled.{events-count, entries-seated, entries-valid, seated-events, points-length, events-board}
 use Rattle.scheduler.specs.Laws.Closing.{fitting-answers}
 use Rattle.scheduler.specs.Laws.Latest.{latest-says}
 use Rattle.scheduler.specs.Shares.{own_share}
 use Rattle.scheduler.specs.Laws.Owning.{own-valid, suits_on, suits-on}
-use Rattle.scheduler.specs.Laws.Counting.{steps-mean, latest-wider, choices-same}
-
--- Choosing: any number of rounds above 2,064 gives the choice.
-pub choosing-rounds : (b : Board) → board.valid b ≡ true → (a : Activity) (ready : ℕ) (q : ResourceRequirement) (qs : List ResourceRequirement)
-    → requirements_of a ≡ q ∷ qs → 1 ≤ q.quantity
-    → (n : ℕ) → 2064 < n → rounds n b a ready ready ≡ choosing b a ready
-unfolding choosing
-choosing-rounds b v a ready q qs asks some n h =
-    let p = points b a ready in
-    let mean = rounds-mean b a ready (all-kept b v a ready) p (all_listed b v a ready) q qs asks some in
-    choices-same (enough b a ready (q ∷ qs)) (held_at b a ready (q ∷ qs)) ready (rounds n b a ready ready) (rounds 10000 b a ready ready)
-    (mean n (omega (arith, above-length p ready, points-length b v a ready)))
-    (mean 10000 (omega (arith, above-length p ready, points-length b v a ready)))
+use Rattle.scheduler.specs.Laws.Counting.{steps-mean, latest-wider}
 
 -- So the number of instants left is what the rounds go by: fewer are left after each round that leads on, and at most 2,064 at first.
 pub instants-few : (b : Board) → board.valid b ≡ true → (a : Activity) (ready t : ℕ) → above (points b a ready) t ≤ 2064
 instants-few b v a ready t = omega (arith, above-length (points b a ready) t, points-length b v a ready)
-
-pub instants-fall : (b : Board) → board.valid b ≡ true → (a : Activity) (ready : ℕ) (qs : List ResourceRequirement) → requirements_of a ≡ qs
-    → 1 ≤ length qs → ((i : ℕ) → i < length qs → 1 ≤ (get_or qs i no_requirement).quantity)
-    → (t : ℕ) (hs : List Held) → round b a ready t qs ≡ holds hs → (greatest_start hs ≡ t → ⊥) → above (points b a ready) (greatest_start hs) < above (points b a ready) t
-instants-fall b v a ready [] asks l some t hs e ne = absurd (omega arith)
-instants-fall b v a ready (q ∷ qs) asks l some t hs e ne =
-    (round-falls b a ready (all-kept b v a ready) (points b a ready) (all_listed b v a ready) q qs asks (some 0 (omega arith)) t hs e ne).1
 
 -- Companions: any number above 640 gives the least start of a resource with its at most four companions.
 pub companions-rounds : (resumable : Bool) (span : ℕ) (xs : List Share) (from n : ℕ) → Sound xs → length xs ≤ 5 → 640 < n

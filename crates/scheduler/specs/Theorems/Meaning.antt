@@ -1,7 +1,7 @@
 -- What choosing and placing amount to, in the plainest terms.
-use Rattle.std.specs.Prelude.{◌≡◌, true, false, List, [], ◌∷◌, map, ◌⊎◌, ℕ, ◌+◌, ◌≤◌, length, drop}
+use Rattle.std.specs.Prelude.{◌≡◌, true, false, List, [], map, ◌⊎◌, ℕ, ◌+◌, ◌≤◌, length, drop}
 use Rattle.std.proofs.Math.Path.{refl, ap}
-use Rattle.std.proofs.Common.{sym, ◌∙◌, subst, ⊎_elim, arith, drop_at}
+use Rattle.std.proofs.Common.{◌∙◌, drop_at}
 use Rattle.std.proofs.Math.Logic.{inl, inr}
 use Rattle.std.proofs.lemmas.List.{length-map}
 use Rattle.calendar.specs.Search.{Found, nothing, at, Earliest, Answers}
@@ -9,35 +9,16 @@ use Rattle.calendar.specs.Valid as calendar
 use Rattle.activity.specs.declared.ResourceRequirement.{ResourceRequirement}
 use Rattle.activity.specs.declared.Activity.{Activity}
 use Rattle.cells.specs.Every.{each_end}
-use Rattle.activity.specs.Check.{requirements_of, activity_refusal}
+use Rattle.activity.specs.Check.{requirements_of}
 use Rattle.board.specs.declared.Board.{Board}
-use Rattle.board.specs.Valid as board
 use Rattle.scheduler.specs.Alone.{span_of}
-use Rattle.scheduler.specs.Choosing.{Held, Choice, no_choice, chosen, choosing}
 use Rattle.scheduler.specs.declared.Entry.{Entry}
 use Rattle.scheduler.specs.Fitting.{entries_of, span_together, shares_of, suits, fitting, end_of}
-use Rattle.scheduler.specs.Placing.{Placement, Reply, placed, chosen_none, none, refused, ended, started, fitted, fit_chosen, time_only, by_requirements, placing, slate_after}
+use Rattle.scheduler.specs.Placing.{Placement, Reply, placed, chosen_none, none, refused, ended, started, fitted, time_only, by_requirements, placing, slate_after}
 use Rattle.scheduler.specs.Rows.{Row, row_of}
-use Rattle.scheduler.specs.Plain.{enough, held_at, Chooses}
+use Rattle.scheduler.specs.Plain.{enough, held_at}
 use Rattle.scheduler.specs.Laws.Together.{Sound}
-use Rattle.scheduler.specs.Laws.Events.{above-length}
-use Rattle.scheduler.specs.Laws.Chosen.{rounds-mean}
-use Rattle.scheduler.specs.Laws.Ruled.{all-kept, all_listed, points-length}
-use Rattle.scheduler.specs.Instants.{points}
 use Rattle.scheduler.specs.Laws.Closing.{fitting-answers, has_end, plainly}
-use Rattle.activity.specs.Laws.Judging.{some-of-each}
-use Rattle.scheduler.specs.Laws.Reported.{held-at-whole, entries-sound}
-
--- The choice on a board that keeps the rules: the choosing instant is the least instant from ready on at which every requirement has its
--- quantity of resources that can start at that instant itself, and held are the first of those by process, then board order; there is
--- no choice only if there is no such instant, however late.
-pub choosing-means : (b : Board) → board.valid b ≡ true → (a : Activity) (ready : ℕ) (q : ResourceRequirement) (qs : List ResourceRequirement)
-    → requirements_of a ≡ q ∷ qs → 1 ≤ q.quantity
-    → Chooses (enough b a ready (q ∷ qs)) (held_at b a ready (q ∷ qs)) ready (choosing b a ready)
-unfolding choosing
-choosing-means b v a ready q qs asks some =
-    rounds-mean b a ready (all-kept b v a ready) (points b a ready) (all_listed b v a ready) q qs asks some 10000
-    (omega (arith, above-length (points b a ready) ready, points-length b v a ready))
 
 -- What the closing fit of some entries amounts to: a placement of them with this choosing instant.
 pub record Fitted (b : Board) (a : Activity) (span t : ℕ) (es : List Entry) (p : Placement) : Type 0 where
@@ -82,25 +63,6 @@ pub data Placing (b : Board) (a : Activity) (ready : ℕ) (qs : List ResourceReq
   fit : (t : ℕ) (p : Placement) → Earliest (enough b a ready qs) ready t
       → Fitted b a (span_together a (held_at b a ready qs t)) t (entries_of a (held_at b a ready qs t)) p
       → Placing b a ready qs (placed p)
-
-pub placing-means : (b : Board) → board.valid b ≡ true → (a : Activity) → calendar.valid a.calendar ≡ true → (ready from : ℕ)
-    → activity_refusal a from ≡ 0 → (q : ResourceRequirement) (qs : List ResourceRequirement) → requirements_of a ≡ q ∷ qs
-    → Placing b a ready (q ∷ qs) (placing b a ready)
-unfolding placing by_requirements fit_chosen
-placing-means b v a own ready from lawful q qs asks = rw asks (go (choosing b a ready) (choosing-means b v a ready q qs asks (some-of-each a from q qs asks lawful)))
-  where
-    held : (t : ℕ) → Earliest (enough b a ready (q ∷ qs)) ready t
-        → Placing b a ready (q ∷ qs) (fitted b a (span_together a (held_at b a ready (q ∷ qs) t)) t (entries_of a (held_at b a ready (q ∷ qs) t)))
-    held t w =
-        let hs = held_at b a ready (q ∷ qs) t in
-        ⊎_elim
-        (λ k. subst (Placing b a ready (q ∷ qs)) (sym k.1) (fit t k.0 w k.2))
-        (λ k. subst (Placing b a ready (q ∷ qs)) (sym k.0) (unfit t w k.1))
-        (fitted-means b a (span_together a hs) t (entries_of a hs) (entries-sound b v a hs (held-at-whole b a ready v (q ∷ qs) t)) own)
-
-    go : (f : Choice) → Chooses (enough b a ready (q ∷ qs)) (held_at b a ready (q ∷ qs)) ready f → Placing b a ready (q ∷ qs) (fit_chosen b a f)
-    go no_choice w = never w
-    go (chosen t hs) w = subst (λ (l : List Held). Placing b a ready (q ∷ qs) (fitted b a (span_together a l) t (entries_of a l))) (sym w.1) (held t w.0)
 
 -- Placing an order without requirements: the span setup + process + teardown at the least start from ready on that suits its own calendar,
 -- or 'chosen, none' because there is none; the choosing instant is ready. No timing, matrix or transport is in it.

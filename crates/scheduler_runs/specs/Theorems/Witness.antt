@@ -19,7 +19,7 @@ use Rattle.scheduler.specs.Alone.{resource_in}
 use Rattle.scheduler.specs.Placing.{place_reply}
 use Rattle.scheduler.specs.Alike.{AlikeResource, Alike, NoExtra}
 use Rattle.scheduler.specs.Laws.AlikeDiaries.{same_alike}
-use Rattle.scheduler.specs.Theorems.Demand3.{demand-3}
+use Rattle.scheduler.proofs.Theorems.Demand3.{demand-3}
 use Rattle.scheduler_runs.specs.Theorems.Runs.{board_of, booked, free1, order, entry, placed_at, first-placed}
 
 abbrev pub first : Board

@@ -1,5 +1,4 @@
 -- `scheduler::rows::row_of` meets its contract.
-use borrow.Author.Rules.{rules}
 use mathlib.Core.Path.{refl}
 use Rattle.scheduler.specs.Rows.{row_of}
 use Rattle.scheduler.proofs.rows.row_of.Goals as goal

@@ -27,9 +27,9 @@ use Rattle.scheduler.specs.Plain.{starts_there, enough, held_at, Chooses}
 use Rattle.cells.specs.Laws.Each.{each_append}
 use Rattle.scheduler.specs.Laws.Together.{all_back}
 use Rattle.scheduler.specs.Laws.Ranking.{each-sort}
-use Rattle.scheduler.specs.Laws.Answering.{KeepsRules, alone-answers, told}
-use Rattle.scheduler.specs.Laws.Rounds.{held_in, not-few, hold-parts, each-hold, greatest-le, starts-le, greatest-ge}
-use Rattle.scheduler.specs.Laws.Rounds.{round-at, round-upto, round-from, round-stays, round-some}
+use Rattle.scheduler.proofs.Laws.Answering.{KeepsRules, alone-answers, told}
+use Rattle.scheduler.proofs.Laws.Rounds.{held_in, not-few, hold-parts, each-hold, greatest-le, starts-le, greatest-ge}
+use Rattle.scheduler.proofs.Laws.Rounds.{round-at, round-upto, round-from, round-stays, round-some}
 use Rattle.scheduler.specs.Instants.{events_of, above}
 use Rattle.scheduler.specs.Laws.Events.{calm-else, least-listed, above-falls}
 

@@ -20,7 +20,7 @@ use Rattle.cells.specs.Every.{Each, each_end, each_on}
 use Rattle.cells.specs.Laws.Each.{each_append, each_take, each-in-map, each-of-map, each_left, each_right}
 use Rattle.cells.specs.Laws.Arrays.{each_at, each-cells}
 use Rattle.scheduler.specs.Laws.Ranking.{Low, High, low, high, low-each, high-each, low-high, sort-split, each-sort, length-sort}
-use Rattle.scheduler.specs.Laws.Answering.{KeepsRules, low-startable, low-more, candidates-from}
+use Rattle.scheduler.proofs.Laws.Answering.{KeepsRules, low-startable, low-more, candidates-from}
 
 is_holds : Round → Bool
 is_holds too_few = false

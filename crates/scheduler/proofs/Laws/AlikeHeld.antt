@@ -37,8 +37,8 @@ use Rattle.scheduler.specs.Laws.Ranking.{length-sort}
 use Rattle.scheduler.specs.Laws.Events.{among-append}
 use Rattle.scheduler.specs.Alike.{Alike, NoExtra}
 use Rattle.scheduler.specs.Laws.AlikeDiaries.{AlikeShare, all-less, all-free-less, diaries-alike, diaries-same}
-use Rattle.scheduler.specs.Laws.AlikeResources.{Twin, twins, Clean, companions-twin, duration-twin, setup-twin, starts-less, starts-same}
-use Rattle.scheduler.specs.Laws.Dropping.{Sub, sub_end, sub_keep, sub_drop, sub-sort, sub-take}
+use Rattle.scheduler.proofs.Laws.AlikeResources.{Twin, twins, Clean, companions-twin, duration-twin, setup-twin, starts-less, starts-same}
+use Rattle.scheduler.proofs.Laws.Dropping.{Sub, sub_end, sub_keep, sub_drop, sub-sort, sub-take}
 
 module _ (b c : Board) (k : Alike b c) (a : Activity) (ready : ℕ) where
   pub record TwinCandidate (x y : Candidate) : Type 0 where

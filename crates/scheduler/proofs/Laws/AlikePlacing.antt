@@ -18,11 +18,11 @@ use Rattle.scheduler.specs.Placing.{Placement, Reply, placed, chosen_none, none,
 use Rattle.scheduler.specs.Placing.{fitted, fit_chosen, time_only, by_requirements, placing, choosing_instant, refusal_of}
 use Rattle.scheduler.specs.Plain.{enough, held_at, Chooses}
 use Rattle.cells.specs.Every.{Each, each_end, Pairs}
-use Rattle.scheduler.specs.Theorems.Meaning.{choosing-means}
+use Rattle.scheduler.proofs.Theorems.Meaning.{choosing-means}
 use Rattle.activity.specs.Laws.Judging.{some-of-each}
 use Rattle.scheduler.specs.Alike.{Alike, NoExtra}
-use Rattle.scheduler.specs.Laws.AlikeResources.{Clean}
-use Rattle.scheduler.specs.Laws.AlikeHeld.{TwinHeld, enough-less, held_same, entries-same, clean-held-all, fitted-same}
+use Rattle.scheduler.proofs.Laws.AlikeResources.{Clean}
+use Rattle.scheduler.proofs.Laws.AlikeHeld.{TwinHeld, enough-less, held_same, entries-same, clean-held-all, fitted-same}
 
 fitted-instant : (b : Board) (a : Activity) (span t : ℕ) (es : List Entry) → choosing_instant (fitted b a span t es) ≡ at t
 unfolding fitted started ended choosing_instant
