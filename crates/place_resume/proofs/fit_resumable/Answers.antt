@@ -104,10 +104,10 @@ loop-t-preserved-then-i-n c =
     let s = k.invariant.1 in (
       k.invariant.0,
       elim c.if-t.branch [
-        then-t w ↦ (let r = w.asked-t.result in
-          let u = w.asked-t.ensures in
-          rw (w.cs-is, w.t-is) (state-asked (those a.b a.e.entries a.e.count first) (a.e.count + 1) a.work a.from (instants a.b a.e.entries a.e.count first) k.cs k.edges k.len k.t.at k.t.end k.t.free k.t.next k.t.laid k.i s l (asks-sound a.b a.e.entries a.e.count first a.places k.invariant.0) (asks-long a.b a.e.entries a.e.count first a.places k.invariant.0) w.if-t.true h r.at r.end r.free r.next r.laid _ _ (ap (λ (x : Share). x.timeline) j) (ap (λ (x : Share). x.units) j) u.at_value.0 u.at_value.1 u.at_value.2 u.at_value.3 u.at_lt_next.0 u.at_lt_next.1 (⊎_elim inl (λ z. inr (event-stop (those a.b a.e.entries a.e.count first) k.i r.next _ (ap (λ (x : Share). x.timeline) j) (omega (arith, u.at_lt_next.0)) z)) u.at_lt_next.3) u.at_lt_next.2))
-      | else-t w ↦ rw (w.cs-is, w.t-is) (state-cell (those a.b a.e.entries a.e.count first) (a.e.count + 1) a.work a.from (instants a.b a.e.entries a.e.count first) k.cs k.edges k.len k.t.at k.t.end k.t.free k.t.next k.t.laid k.i s l w.if-t.false (omega (arith, k.invariant.0.entries.few)) _ (ap (λ (x : Share). x.timeline.calendar) j))
+        | then-t w ↦ (let r = w.asked-t.result in
+            let u = w.asked-t.ensures in
+            rw (w.cs-is, w.t-is) (state-asked (those a.b a.e.entries a.e.count first) (a.e.count + 1) a.work a.from (instants a.b a.e.entries a.e.count first) k.cs k.edges k.len k.t.at k.t.end k.t.free k.t.next k.t.laid k.i s l (asks-sound a.b a.e.entries a.e.count first a.places k.invariant.0) (asks-long a.b a.e.entries a.e.count first a.places k.invariant.0) w.if-t.true h r.at r.end r.free r.next r.laid _ _ (ap (λ (x : Share). x.timeline) j) (ap (λ (x : Share). x.units) j) u.at_value.0 u.at_value.1 u.at_value.2 u.at_value.3 u.at_lt_next.0 u.at_lt_next.1 (⊎_elim inl (λ z. inr (event-stop (those a.b a.e.entries a.e.count first) k.i r.next _ (ap (λ (x : Share). x.timeline) j) (omega (arith, u.at_lt_next.0)) z)) u.at_lt_next.3) u.at_lt_next.2))
+        | else-t w ↦ rw (w.cs-is, w.t-is) (state-cell (those a.b a.e.entries a.e.count first) (a.e.count + 1) a.work a.from (instants a.b a.e.entries a.e.count first) k.cs k.edges k.len k.t.at k.t.end k.t.free k.t.next k.t.laid k.i s l w.if-t.false (omega (arith, k.invariant.0.entries.few)) _ (ap (λ (x : Share). x.timeline.calendar) j))
       ],
     )
 
@@ -141,16 +141,16 @@ slice_bounds-begun-end c = sym ((let it : Onward (those c.args.b c.args.e.entrie
     let s = k.invariant.1 in
     let few : a.e.count + 1 ≤ 25 = omega (arith, q.3.few) in
     elim c.if-not-t.branch [
-      then-not-t w ↦ (let e = not-true _ w.if-not-t.true in
-    let long : length w.joint_time-j.result.edges ≡ 3201 = search rules in (
-      rw (w.edges-is, w.len-is) (onward-laid (those a.b a.e.entries a.e.count first) (a.e.count + 1) a.work a.from (instants a.b a.e.entries a.e.count first) (asks-sound a.b a.e.entries a.e.count first a.places k.invariant.0) (asks-long a.b a.e.entries a.e.count first a.places k.invariant.0) k.cs k.edges k.len k.t.at k.t.end k.t.free k.t.next k.t.laid k.i s l e q.4 few w.joint_time-j.result.edges w.joint_time-j.result.len long w.joint_time-j.ensures.0 w.joint_time-j.ensures.1),
-      λ x p g z. left_laid (instants a.b a.e.entries a.e.count first) x k.t.at p k.t.laid (a.e.count + 1) k.i (g ∙ (s.gathers e).begin ∙ sym (s.gathers e).start) z e few,
-    ))
-    | else-not-t w ↦ (let e = not-false _ w.if-not-t.false in
-    let t = (s.walks e).tried h in (
-      rw (w.edges-is, w.len-is) (onward-next (those a.b a.e.entries a.e.count first) (a.e.count + 1) a.work a.from (instants a.b a.e.entries a.e.count first) (asks-sound a.b a.e.entries a.e.count first a.places k.invariant.0) (asks-long a.b a.e.entries a.e.count first a.places k.invariant.0) k.cs k.edges k.len k.t.at k.t.end k.t.free k.t.next k.t.laid k.i s l e h f),
-      λ x p g z. left-on (instants a.b a.e.entries a.e.count first) x k.t.at p k.t.laid (a.e.count + 1) k.i (omega (arith, g, t.later)) (omega (arith, g, t.most)) (rw g t.listed) z e few,
-    ))
+      | then-not-t w ↦ (let e = not-true _ w.if-not-t.true in
+          let long : length w.joint_time-j.result.edges ≡ 3201 = search rules in (
+            rw (w.edges-is, w.len-is) (onward-laid (those a.b a.e.entries a.e.count first) (a.e.count + 1) a.work a.from (instants a.b a.e.entries a.e.count first) (asks-sound a.b a.e.entries a.e.count first a.places k.invariant.0) (asks-long a.b a.e.entries a.e.count first a.places k.invariant.0) k.cs k.edges k.len k.t.at k.t.end k.t.free k.t.next k.t.laid k.i s l e q.4 few w.joint_time-j.result.edges w.joint_time-j.result.len long w.joint_time-j.ensures.0 w.joint_time-j.ensures.1),
+            λ x p g z. left_laid (instants a.b a.e.entries a.e.count first) x k.t.at p k.t.laid (a.e.count + 1) k.i (g ∙ (s.gathers e).begin ∙ sym (s.gathers e).start) z e few,
+          ))
+      | else-not-t w ↦ (let e = not-false _ w.if-not-t.false in
+          let t = (s.walks e).tried h in (
+            rw (w.edges-is, w.len-is) (onward-next (those a.b a.e.entries a.e.count first) (a.e.count + 1) a.work a.from (instants a.b a.e.entries a.e.count first) (asks-sound a.b a.e.entries a.e.count first a.places k.invariant.0) (asks-long a.b a.e.entries a.e.count first a.places k.invariant.0) k.cs k.edges k.len k.t.at k.t.end k.t.free k.t.next k.t.laid k.i s l e h f),
+            λ x p g z. left-on (instants a.b a.e.entries a.e.count first) x k.t.at p k.t.laid (a.e.count + 1) k.i (omega (arith, g, t.later)) (omega (arith, g, t.most)) (rw g t.listed) z e few,
+          ))
     ] in it)).0.wide
 
 pub begun-t-requires : goal.begun-t-requires
@@ -165,16 +165,16 @@ begun-t-requires c =
     let s = k.invariant.1 in
     let few : a.e.count + 1 ≤ 25 = omega (arith, q.3.few) in
     elim c.if-not-t.branch [
-      then-not-t w ↦ (let e = not-true _ w.if-not-t.true in
-    let long : length w.joint_time-j.result.edges ≡ 3201 = search rules in (
-      rw (w.edges-is, w.len-is) (onward-laid (those a.b a.e.entries a.e.count first) (a.e.count + 1) a.work a.from (instants a.b a.e.entries a.e.count first) (asks-sound a.b a.e.entries a.e.count first a.places k.invariant.0) (asks-long a.b a.e.entries a.e.count first a.places k.invariant.0) k.cs k.edges k.len k.t.at k.t.end k.t.free k.t.next k.t.laid k.i s l e q.4 few w.joint_time-j.result.edges w.joint_time-j.result.len long w.joint_time-j.ensures.0 w.joint_time-j.ensures.1),
-      λ x p g z. left_laid (instants a.b a.e.entries a.e.count first) x k.t.at p k.t.laid (a.e.count + 1) k.i (g ∙ (s.gathers e).begin ∙ sym (s.gathers e).start) z e few,
-    ))
-    | else-not-t w ↦ (let e = not-false _ w.if-not-t.false in
-    let t = (s.walks e).tried h in (
-      rw (w.edges-is, w.len-is) (onward-next (those a.b a.e.entries a.e.count first) (a.e.count + 1) a.work a.from (instants a.b a.e.entries a.e.count first) (asks-sound a.b a.e.entries a.e.count first a.places k.invariant.0) (asks-long a.b a.e.entries a.e.count first a.places k.invariant.0) k.cs k.edges k.len k.t.at k.t.end k.t.free k.t.next k.t.laid k.i s l e h f),
-      λ x p g z. left-on (instants a.b a.e.entries a.e.count first) x k.t.at p k.t.laid (a.e.count + 1) k.i (omega (arith, g, t.later)) (omega (arith, g, t.most)) (rw g t.listed) z e few,
-    ))
+      | then-not-t w ↦ (let e = not-true _ w.if-not-t.true in
+          let long : length w.joint_time-j.result.edges ≡ 3201 = search rules in (
+            rw (w.edges-is, w.len-is) (onward-laid (those a.b a.e.entries a.e.count first) (a.e.count + 1) a.work a.from (instants a.b a.e.entries a.e.count first) (asks-sound a.b a.e.entries a.e.count first a.places k.invariant.0) (asks-long a.b a.e.entries a.e.count first a.places k.invariant.0) k.cs k.edges k.len k.t.at k.t.end k.t.free k.t.next k.t.laid k.i s l e q.4 few w.joint_time-j.result.edges w.joint_time-j.result.len long w.joint_time-j.ensures.0 w.joint_time-j.ensures.1),
+            λ x p g z. left_laid (instants a.b a.e.entries a.e.count first) x k.t.at p k.t.laid (a.e.count + 1) k.i (g ∙ (s.gathers e).begin ∙ sym (s.gathers e).start) z e few,
+          ))
+      | else-not-t w ↦ (let e = not-false _ w.if-not-t.false in
+          let t = (s.walks e).tried h in (
+            rw (w.edges-is, w.len-is) (onward-next (those a.b a.e.entries a.e.count first) (a.e.count + 1) a.work a.from (instants a.b a.e.entries a.e.count first) (asks-sound a.b a.e.entries a.e.count first a.places k.invariant.0) (asks-long a.b a.e.entries a.e.count first a.places k.invariant.0) k.cs k.edges k.len k.t.at k.t.end k.t.free k.t.next k.t.laid k.i s l e h f),
+            λ x p g z. left-on (instants a.b a.e.entries a.e.count first) x k.t.at p k.t.laid (a.e.count + 1) k.i (omega (arith, g, t.later)) (omega (arith, g, t.most)) (rw g t.listed) z e few,
+          ))
     ] in it)).0 in
     (o.short, omega (arith, o.short, o.wide), c.requires.5, o.layout.edges)
 
@@ -191,16 +191,16 @@ loop-t-smaller c =
     let s = k.invariant.1 in
     let few : a.e.count + 1 ≤ 25 = omega (arith, q.3.few) in
     elim c.if-not-t.branch [
-      then-not-t w ↦ (let e = not-true _ w.if-not-t.true in
-    let long : length w.joint_time-j.result.edges ≡ 3201 = search rules in (
-      rw (w.edges-is, w.len-is) (onward-laid (those a.b a.e.entries a.e.count first) (a.e.count + 1) a.work a.from (instants a.b a.e.entries a.e.count first) (asks-sound a.b a.e.entries a.e.count first a.places k.invariant.0) (asks-long a.b a.e.entries a.e.count first a.places k.invariant.0) k.cs k.edges k.len k.t.at k.t.end k.t.free k.t.next k.t.laid k.i s l e q.4 few w.joint_time-j.result.edges w.joint_time-j.result.len long w.joint_time-j.ensures.0 w.joint_time-j.ensures.1),
-      λ x p g z. left_laid (instants a.b a.e.entries a.e.count first) x k.t.at p k.t.laid (a.e.count + 1) k.i (g ∙ (s.gathers e).begin ∙ sym (s.gathers e).start) z e few,
-    ))
-    | else-not-t w ↦ (let e = not-false _ w.if-not-t.false in
-    let t = (s.walks e).tried h in (
-      rw (w.edges-is, w.len-is) (onward-next (those a.b a.e.entries a.e.count first) (a.e.count + 1) a.work a.from (instants a.b a.e.entries a.e.count first) (asks-sound a.b a.e.entries a.e.count first a.places k.invariant.0) (asks-long a.b a.e.entries a.e.count first a.places k.invariant.0) k.cs k.edges k.len k.t.at k.t.end k.t.free k.t.next k.t.laid k.i s l e h f),
-      λ x p g z. left-on (instants a.b a.e.entries a.e.count first) x k.t.at p k.t.laid (a.e.count + 1) k.i (omega (arith, g, t.later)) (omega (arith, g, t.most)) (rw g t.listed) z e few,
-    ))
+      | then-not-t w ↦ (let e = not-true _ w.if-not-t.true in
+          let long : length w.joint_time-j.result.edges ≡ 3201 = search rules in (
+            rw (w.edges-is, w.len-is) (onward-laid (those a.b a.e.entries a.e.count first) (a.e.count + 1) a.work a.from (instants a.b a.e.entries a.e.count first) (asks-sound a.b a.e.entries a.e.count first a.places k.invariant.0) (asks-long a.b a.e.entries a.e.count first a.places k.invariant.0) k.cs k.edges k.len k.t.at k.t.end k.t.free k.t.next k.t.laid k.i s l e q.4 few w.joint_time-j.result.edges w.joint_time-j.result.len long w.joint_time-j.ensures.0 w.joint_time-j.ensures.1),
+            λ x p g z. left_laid (instants a.b a.e.entries a.e.count first) x k.t.at p k.t.laid (a.e.count + 1) k.i (g ∙ (s.gathers e).begin ∙ sym (s.gathers e).start) z e few,
+          ))
+      | else-not-t w ↦ (let e = not-false _ w.if-not-t.false in
+          let t = (s.walks e).tried h in (
+            rw (w.edges-is, w.len-is) (onward-next (those a.b a.e.entries a.e.count first) (a.e.count + 1) a.work a.from (instants a.b a.e.entries a.e.count first) (asks-sound a.b a.e.entries a.e.count first a.places k.invariant.0) (asks-long a.b a.e.entries a.e.count first a.places k.invariant.0) k.cs k.edges k.len k.t.at k.t.end k.t.free k.t.next k.t.laid k.i s l e h f),
+            λ x p g z. left-on (instants a.b a.e.entries a.e.count first) x k.t.at p k.t.laid (a.e.count + 1) k.i (omega (arith, g, t.later)) (omega (arith, g, t.most)) (rw g t.listed) z e few,
+          ))
     ] in it)).1 _ _ u.0 u.2
 
 pub loop-t-preserved : goal.loop-t-preserved
@@ -221,17 +221,17 @@ loop-t-preserved c =
           let s = k.invariant.1 in
           let few : a.e.count + 1 ≤ 25 = omega (arith, q.3.few) in
           elim c.if-not-t.branch [
-      then-not-t w ↦ (let e = not-true _ w.if-not-t.true in
-          let long : length w.joint_time-j.result.edges ≡ 3201 = search rules in (
-            rw (w.edges-is, w.len-is) (onward-laid (those a.b a.e.entries a.e.count first) (a.e.count + 1) a.work a.from (instants a.b a.e.entries a.e.count first) (asks-sound a.b a.e.entries a.e.count first a.places k.invariant.0) (asks-long a.b a.e.entries a.e.count first a.places k.invariant.0) k.cs k.edges k.len k.t.at k.t.end k.t.free k.t.next k.t.laid k.i s l e q.4 few w.joint_time-j.result.edges w.joint_time-j.result.len long w.joint_time-j.ensures.0 w.joint_time-j.ensures.1),
-            λ x p g z. left_laid (instants a.b a.e.entries a.e.count first) x k.t.at p k.t.laid (a.e.count + 1) k.i (g ∙ (s.gathers e).begin ∙ sym (s.gathers e).start) z e few,
-          ))
-    | else-not-t w ↦ (let e = not-false _ w.if-not-t.false in
-          let t = (s.walks e).tried h in (
-            rw (w.edges-is, w.len-is) (onward-next (those a.b a.e.entries a.e.count first) (a.e.count + 1) a.work a.from (instants a.b a.e.entries a.e.count first) (asks-sound a.b a.e.entries a.e.count first a.places k.invariant.0) (asks-long a.b a.e.entries a.e.count first a.places k.invariant.0) k.cs k.edges k.len k.t.at k.t.end k.t.free k.t.next k.t.laid k.i s l e h f),
-            λ x p g z. left-on (instants a.b a.e.entries a.e.count first) x k.t.at p k.t.laid (a.e.count + 1) k.i (omega (arith, g, t.later)) (omega (arith, g, t.most)) (rw g t.listed) z e few,
-          ))
-    ] in it)).0 r.at r.end r.free r.next r.laid u.0 u.1 u.2 u.3,
+            | then-not-t w ↦ (let e = not-true _ w.if-not-t.true in
+                let long : length w.joint_time-j.result.edges ≡ 3201 = search rules in (
+                  rw (w.edges-is, w.len-is) (onward-laid (those a.b a.e.entries a.e.count first) (a.e.count + 1) a.work a.from (instants a.b a.e.entries a.e.count first) (asks-sound a.b a.e.entries a.e.count first a.places k.invariant.0) (asks-long a.b a.e.entries a.e.count first a.places k.invariant.0) k.cs k.edges k.len k.t.at k.t.end k.t.free k.t.next k.t.laid k.i s l e q.4 few w.joint_time-j.result.edges w.joint_time-j.result.len long w.joint_time-j.ensures.0 w.joint_time-j.ensures.1),
+                  λ x p g z. left_laid (instants a.b a.e.entries a.e.count first) x k.t.at p k.t.laid (a.e.count + 1) k.i (g ∙ (s.gathers e).begin ∙ sym (s.gathers e).start) z e few,
+                ))
+            | else-not-t w ↦ (let e = not-false _ w.if-not-t.false in
+                let t = (s.walks e).tried h in (
+                  rw (w.edges-is, w.len-is) (onward-next (those a.b a.e.entries a.e.count first) (a.e.count + 1) a.work a.from (instants a.b a.e.entries a.e.count first) (asks-sound a.b a.e.entries a.e.count first a.places k.invariant.0) (asks-long a.b a.e.entries a.e.count first a.places k.invariant.0) k.cs k.edges k.len k.t.at k.t.end k.t.free k.t.next k.t.laid k.i s l e h f),
+                  λ x p g z. left-on (instants a.b a.e.entries a.e.count first) x k.t.at p k.t.laid (a.e.count + 1) k.i (omega (arith, g, t.later)) (omega (arith, g, t.most)) (rw g t.listed) z e few,
+                ))
+          ] in it)).0 r.at r.end r.free r.next r.laid u.0 u.1 u.2 u.3,
     )
 
 pub returns : goal.returns

@@ -24,14 +24,14 @@ is_among-requires c =
 pub offset_bounds-more-k : goal.offset_bounds-more-k
 offset_bounds-more-k c =
     let r : c.loop-i.more.count < 24 =
-        let a = c.args in
-        let q = c.requires in
-        let v = c.loop-i.invariant in
-        let i = c.loop-i.i in
-        let l = c.loop-i-test.true in
-        let e = c.is_among.ensures in
-        let small = small_at a.list.numbers a.list.len (omega (arith, v.2, q.1)) q.2 i l in
-        join-room _ _ a.list.numbers i _ _ (omega (arith, v.2, q.1)) v.3 (sym e ∙ c.if-not-is_among.true) small in
+    let a = c.args in
+    let q = c.requires in
+    let v = c.loop-i.invariant in
+    let i = c.loop-i.i in
+    let l = c.loop-i-test.true in
+    let e = c.is_among.ensures in
+    let small = small_at a.list.numbers a.list.len (omega (arith, v.2, q.1)) q.2 i l in
+    join-room _ _ a.list.numbers i _ _ (omega (arith, v.2, q.1)) v.3 (sym e ∙ c.if-not-is_among.true) small in
     search rules
 
 pub bounds-more-k : goal.bounds-more-k
@@ -48,14 +48,14 @@ bounds-more-k c =
 pub overflow_add-more : goal.overflow_add-more
 overflow_add-more c =
     let r : c.loop-i.more.count < 24 =
-        let a = c.args in
-        let q = c.requires in
-        let v = c.loop-i.invariant in
-        let i = c.loop-i.i in
-        let l = c.loop-i-test.true in
-        let e = c.is_among.ensures in
-        let small = small_at a.list.numbers a.list.len (omega (arith, v.2, q.1)) q.2 i l in
-        join-room _ _ a.list.numbers i _ _ (omega (arith, v.2, q.1)) v.3 (sym e ∙ c.if-not-is_among.true) small in
+    let a = c.args in
+    let q = c.requires in
+    let v = c.loop-i.invariant in
+    let i = c.loop-i.i in
+    let l = c.loop-i-test.true in
+    let e = c.is_among.ensures in
+    let small = small_at a.list.numbers a.list.len (omega (arith, v.2, q.1)) q.2 i l in
+    join-room _ _ a.list.numbers i _ _ (omega (arith, v.2, q.1)) v.3 (sym e ∙ c.if-not-is_among.true) small in
     search rules
 
 pub loop-i-preserved : goal.loop-i-preserved
