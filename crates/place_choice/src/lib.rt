@@ -2,7 +2,7 @@
 // `place_activity` in scheduler/simple.rs; 01, 'Choosing').
 // Searched are the instants from ready on, round by round: a round leads to the greatest start held, until it stays. Each new instant is
 // an arrival or an event on some diary, of which there are at most 2,064, so the rounds end (`instants-few`, `instants-fall` in
-// scheduler/specs/Theorems/Counting.antt), and the Rust's 10,000 are never met. In a round at most 64 answers are asked for, one of each
+// scheduler's Theorems/Counting.antt), and the Rust's 10,000 are never met. In a round at most 64 answers are asked for, one of each
 // resource to each requirement, with its companions, and only where the last answer has been passed.
 // Reference: the Rust's own, the fixed point of the serial schedule generation scheme (`place_activity`).
 #![tactic(auto)]
