@@ -75,12 +75,12 @@ loop-i-preserved c =
     let e : answered b i ≡ true = sym c.cell_right.ensures ∙ c.if-not-cell_right.false in
     let j : Seen b (min (i + 1) b.len) c.if-i-len.places × (cell_right b i ≡ true) =
     elim c.if-i-len.branch [
-      then-i-len+else-places-number-lt16 w ↦
-        (let r = there b i w.if-i-len.true e in
-        let d = seen_at b i (number_at b i) l.places s (omega arith) (omega arith) (omega (arith, resource-number _ r)) in
-        let f = sym d ∙ le-ltb _ _ w.if-places-number-lt16.false in
-        (rw w.places-is (seen_next b i l.places s (omega arith) (omega (arith, resource-number _ r)) f), cell-right b i (omega arith) r f))
-    | else-i-len w ↦ (rw w.places-is (seen-past b i l.places s (omega arith)), cell-past b i w.if-i-len.false ∙ (rw (le-ltb i b.len w.if-i-len.false) at e))
+      | then-i-len+else-places-number-lt16 w ↦
+          (let r = there b i w.if-i-len.true e in
+          let d = seen_at b i (number_at b i) l.places s (omega arith) (omega arith) (omega (arith, resource-number _ r)) in
+          let f = sym d ∙ le-ltb _ _ w.if-places-number-lt16.false in
+          (rw w.places-is (seen_next b i l.places s (omega arith) (omega (arith, resource-number _ r)) f), cell-right b i (omega arith) r f))
+      | else-i-len w ↦ (rw w.places-is (seen-past b i l.places s (omega arith)), cell-past b i w.if-i-len.false ∙ (rw (le-ltb i b.len w.if-i-len.false) at e))
     ] in
     (refl, omega arith, omega arith, j.0, valid-next b i c.loop-i-test.true l.invariant.4 j.1, length-set l.lens i _ ∙ l.invariant.5, filled_next (λ k. (resource_at b k).timeline.len) l.lens i _ 0 (omega (arith, l.invariant.5)) l.invariant.6 refl)
 
