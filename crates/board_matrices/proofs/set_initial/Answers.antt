@@ -21,29 +21,29 @@ returns-then-e-ne0 c = entry-refused _ _ _ _ _ _ c.entry_for-e.ensures c.if-e-ne
 
 pub returns-then-category-gt15 : goal.returns-then-category-gt15
 unfolding set_initial_reply
-returns-then-category-gt15 c = category-refused _ _ _ _ _ ((let it : (valid c.args.board ≡ true) × (lookup c.args.board c.args.number ≡ at c.entry_for-e.result.place) = entry-at _ _ _ c.entry_for-e.ensures c.if-e-ne0.false in it)).0 (lt-leb _ _ c.if-category-gt15.true)
+returns-then-category-gt15 c = category-refused _ _ _ _ _ (entry-at _ _ _ c.entry_for-e.ensures c.if-e-ne0.false).0 (lt-leb _ _ c.if-category-gt15.true)
 
 pub returns-then-not-entry_right : goal.returns-then-not-entry_right
 unfolding set_initial_reply
 returns-then-not-entry_right c =
     let back = to_z-of_z w64 c.args.ms c.ranges.ms in
     let p = sym (rw back at c.entry_right.ensures) ∙ c.if-not-entry_right.true in
-    entry-wrong _ _ _ _ _ _ ((let it : (valid c.args.board ≡ true) × (lookup c.args.board c.args.number ≡ at c.entry_for-e.result.place) = entry-at _ _ _ c.entry_for-e.ensures c.if-e-ne0.false in it)).0 ((let it : (valid c.args.board ≡ true) × (lookup c.args.board c.args.number ≡ at c.entry_for-e.result.place) = entry-at _ _ _ c.entry_for-e.ensures c.if-e-ne0.false in it)).1 (le-leb _ _ c.if-category-gt15.false) p
+    entry-wrong _ _ _ _ _ _ (entry-at _ _ _ c.entry_for-e.ensures c.if-e-ne0.false).0 (entry-at _ _ _ c.entry_for-e.ensures c.if-e-ne0.false).1 (le-leb _ _ c.if-category-gt15.false) p
 
 pub offset_bounds-b-i : goal.offset_bounds-b-i
-offset_bounds-b-i c = record { fits = omega (arith, (let it : c.entry_for-e.result.place < 16 = found_below _ _ _ ((let it : (valid c.args.board ≡ true) × (lookup c.args.board c.args.number ≡ at c.entry_for-e.result.place) = entry-at _ _ _ c.entry_for-e.ensures c.if-e-ne0.false in it)).0 ((let it : (valid c.args.board ≡ true) × (lookup c.args.board c.args.number ≡ at c.entry_for-e.result.place) = entry-at _ _ _ c.entry_for-e.ensures c.if-e-ne0.false in it)).1 in it)) }
+offset_bounds-b-i c = record { fits = omega (arith, (found_below _ _ _ (entry-at _ _ _ c.entry_for-e.ensures c.if-e-ne0.false).0 (entry-at _ _ _ c.entry_for-e.ensures c.if-e-ne0.false).1)) }
 
 pub bounds-b-i : goal.bounds-b-i
-bounds-b-i c = omega (arith, (let it : c.entry_for-e.result.place < 16 = found_below _ _ _ ((let it : (valid c.args.board ≡ true) × (lookup c.args.board c.args.number ≡ at c.entry_for-e.result.place) = entry-at _ _ _ c.entry_for-e.ensures c.if-e-ne0.false in it)).0 ((let it : (valid c.args.board ≡ true) × (lookup c.args.board c.args.number ≡ at c.entry_for-e.result.place) = entry-at _ _ _ c.entry_for-e.ensures c.if-e-ne0.false in it)).1 in it))
+bounds-b-i c = omega (arith, (found_below _ _ _ (entry-at _ _ _ c.entry_for-e.ensures c.if-e-ne0.false).0 (entry-at _ _ _ c.entry_for-e.ensures c.if-e-ne0.false).1))
 
 pub offset_bounds-b-i-2 : goal.offset_bounds-b-i-2
-offset_bounds-b-i-2 c = record { fits = omega (arith, (let it : c.entry_for-e.result.place < 16 = found_below _ _ _ ((let it : (valid c.args.board ≡ true) × (lookup c.args.board c.args.number ≡ at c.entry_for-e.result.place) = entry-at _ _ _ c.entry_for-e.ensures c.if-e-ne0.false in it)).0 ((let it : (valid c.args.board ≡ true) × (lookup c.args.board c.args.number ≡ at c.entry_for-e.result.place) = entry-at _ _ _ c.entry_for-e.ensures c.if-e-ne0.false in it)).1 in it)) }
+offset_bounds-b-i-2 c = record { fits = omega (arith, (found_below _ _ _ (entry-at _ _ _ c.entry_for-e.ensures c.if-e-ne0.false).0 (entry-at _ _ _ c.entry_for-e.ensures c.if-e-ne0.false).1)) }
 
 pub bounds-b-i-2 : goal.bounds-b-i-2
-bounds-b-i-2 c = omega (arith, (let it : c.entry_for-e.result.place < 16 = found_below _ _ _ ((let it : (valid c.args.board ≡ true) × (lookup c.args.board c.args.number ≡ at c.entry_for-e.result.place) = entry-at _ _ _ c.entry_for-e.ensures c.if-e-ne0.false in it)).0 ((let it : (valid c.args.board ≡ true) × (lookup c.args.board c.args.number ≡ at c.entry_for-e.result.place) = entry-at _ _ _ c.entry_for-e.ensures c.if-e-ne0.false in it)).1 in it))
+bounds-b-i-2 c = omega (arith, (found_below _ _ _ (entry-at _ _ _ c.entry_for-e.ensures c.if-e-ne0.false).0 (entry-at _ _ _ c.entry_for-e.ensures c.if-e-ne0.false).1))
 
 pub returns : goal.returns
 returns c =
     let back = to_z-of_z w64 c.args.ms c.ranges.ms in
     let p = sym (rw back at c.entry_right.ensures) ∙ c.if-not-entry_right.false in
-    initial-taken _ _ _ _ _ ((let it : (valid c.args.board ≡ true) × (lookup c.args.board c.args.number ≡ at c.entry_for-e.result.place) = entry-at _ _ _ c.entry_for-e.ensures c.if-e-ne0.false in it)).0 ((let it : (valid c.args.board ≡ true) × (lookup c.args.board c.args.number ≡ at c.entry_for-e.result.place) = entry-at _ _ _ c.entry_for-e.ensures c.if-e-ne0.false in it)).1 p _ (omega arith) (rw back at c.with_initial-m.ensures)
+    initial-taken _ _ _ _ _ (entry-at _ _ _ c.entry_for-e.ensures c.if-e-ne0.false).0 (entry-at _ _ _ c.entry_for-e.ensures c.if-e-ne0.false).1 p _ (omega arith) (rw back at c.with_initial-m.ensures)

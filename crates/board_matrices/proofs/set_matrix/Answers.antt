@@ -21,7 +21,7 @@ pub returns-then-not-duration_right : goal.returns-then-not-duration_right
 returns-then-not-duration_right c =
     let back = to_z-of_z w64 c.args.default c.ranges.default in
     let p = sym (rw back at c.duration_right.ensures) ∙ c.if-not-duration_right.true in
-    matrix-wrong _ _ _ _ _ ((let it : (valid c.args.board ≡ true) × (lookup c.args.board c.args.number ≡ at c.entry_for-e.result.place) = entry-at _ _ _ c.entry_for-e.ensures c.if-e-ne0.false in it)).0 ((let it : (valid c.args.board ≡ true) × (lookup c.args.board c.args.number ≡ at c.entry_for-e.result.place) = entry-at _ _ _ c.entry_for-e.ensures c.if-e-ne0.false in it)).1 (rw p refl)
+    matrix-wrong _ _ _ _ _ (entry-at _ _ _ c.entry_for-e.ensures c.if-e-ne0.false).0 (entry-at _ _ _ c.entry_for-e.ensures c.if-e-ne0.false).1 (rw p refl)
 
 pub returns-then-not-duration_right-2 : goal.returns-then-not-duration_right-2
 returns-then-not-duration_right-2 c =
@@ -29,19 +29,19 @@ returns-then-not-duration_right-2 c =
     let back2 = to_z-of_z w64 c.args.initial c.ranges.initial in
     let p = sym (rw back at c.duration_right.ensures) ∙ c.if-not-duration_right.false in
     let r : duration_right c.args.initial ≡ false = sym (c.duration_right-2.ensures ∙ ap duration_right back2) ∙ c.if-not-duration_right-2.true in
-    matrix-wrong _ _ _ _ _ ((let it : (valid c.args.board ≡ true) × (lookup c.args.board c.args.number ≡ at c.entry_for-e.result.place) = entry-at _ _ _ c.entry_for-e.ensures c.if-e-ne0.false in it)).0 ((let it : (valid c.args.board ≡ true) × (lookup c.args.board c.args.number ≡ at c.entry_for-e.result.place) = entry-at _ _ _ c.entry_for-e.ensures c.if-e-ne0.false in it)).1 (rw (p, r) refl)
+    matrix-wrong _ _ _ _ _ (entry-at _ _ _ c.entry_for-e.ensures c.if-e-ne0.false).0 (entry-at _ _ _ c.entry_for-e.ensures c.if-e-ne0.false).1 (rw (p, r) refl)
 
 pub offset_bounds-b-i : goal.offset_bounds-b-i
-offset_bounds-b-i c = record { fits = omega (arith, (let it : c.entry_for-e.result.place < 16 = found_below _ _ _ ((let it : (valid c.args.board ≡ true) × (lookup c.args.board c.args.number ≡ at c.entry_for-e.result.place) = entry-at _ _ _ c.entry_for-e.ensures c.if-e-ne0.false in it)).0 ((let it : (valid c.args.board ≡ true) × (lookup c.args.board c.args.number ≡ at c.entry_for-e.result.place) = entry-at _ _ _ c.entry_for-e.ensures c.if-e-ne0.false in it)).1 in it)) }
+offset_bounds-b-i c = record { fits = omega (arith, (found_below _ _ _ (entry-at _ _ _ c.entry_for-e.ensures c.if-e-ne0.false).0 (entry-at _ _ _ c.entry_for-e.ensures c.if-e-ne0.false).1)) }
 
 pub bounds-b-i : goal.bounds-b-i
-bounds-b-i c = omega (arith, (let it : c.entry_for-e.result.place < 16 = found_below _ _ _ ((let it : (valid c.args.board ≡ true) × (lookup c.args.board c.args.number ≡ at c.entry_for-e.result.place) = entry-at _ _ _ c.entry_for-e.ensures c.if-e-ne0.false in it)).0 ((let it : (valid c.args.board ≡ true) × (lookup c.args.board c.args.number ≡ at c.entry_for-e.result.place) = entry-at _ _ _ c.entry_for-e.ensures c.if-e-ne0.false in it)).1 in it))
+bounds-b-i c = omega (arith, (found_below _ _ _ (entry-at _ _ _ c.entry_for-e.ensures c.if-e-ne0.false).0 (entry-at _ _ _ c.entry_for-e.ensures c.if-e-ne0.false).1))
 
 pub offset_bounds-b-i-2 : goal.offset_bounds-b-i-2
-offset_bounds-b-i-2 c = record { fits = omega (arith, (let it : c.entry_for-e.result.place < 16 = found_below _ _ _ ((let it : (valid c.args.board ≡ true) × (lookup c.args.board c.args.number ≡ at c.entry_for-e.result.place) = entry-at _ _ _ c.entry_for-e.ensures c.if-e-ne0.false in it)).0 ((let it : (valid c.args.board ≡ true) × (lookup c.args.board c.args.number ≡ at c.entry_for-e.result.place) = entry-at _ _ _ c.entry_for-e.ensures c.if-e-ne0.false in it)).1 in it)) }
+offset_bounds-b-i-2 c = record { fits = omega (arith, (found_below _ _ _ (entry-at _ _ _ c.entry_for-e.ensures c.if-e-ne0.false).0 (entry-at _ _ _ c.entry_for-e.ensures c.if-e-ne0.false).1)) }
 
 pub bounds-b-i-2 : goal.bounds-b-i-2
-bounds-b-i-2 c = omega (arith, (let it : c.entry_for-e.result.place < 16 = found_below _ _ _ ((let it : (valid c.args.board ≡ true) × (lookup c.args.board c.args.number ≡ at c.entry_for-e.result.place) = entry-at _ _ _ c.entry_for-e.ensures c.if-e-ne0.false in it)).0 ((let it : (valid c.args.board ≡ true) × (lookup c.args.board c.args.number ≡ at c.entry_for-e.result.place) = entry-at _ _ _ c.entry_for-e.ensures c.if-e-ne0.false in it)).1 in it))
+bounds-b-i-2 c = omega (arith, (found_below _ _ _ (entry-at _ _ _ c.entry_for-e.ensures c.if-e-ne0.false).0 (entry-at _ _ _ c.entry_for-e.ensures c.if-e-ne0.false).1))
 
 pub returns : goal.returns
 returns c =
@@ -49,4 +49,4 @@ returns c =
     let back2 = to_z-of_z w64 c.args.initial c.ranges.initial in
     let p = sym (rw back at c.duration_right.ensures) ∙ c.if-not-duration_right.false in
     let r : duration_right c.args.initial ≡ true = sym (c.duration_right-2.ensures ∙ ap duration_right back2) ∙ c.if-not-duration_right-2.false in
-    matrix-taken _ _ _ _ _ _ ((let it : (valid c.args.board ≡ true) × (lookup c.args.board c.args.number ≡ at c.entry_for-e.result.place) = entry-at _ _ _ c.entry_for-e.ensures c.if-e-ne0.false in it)).0 ((let it : (valid c.args.board ≡ true) × (lookup c.args.board c.args.number ≡ at c.entry_for-e.result.place) = entry-at _ _ _ c.entry_for-e.ensures c.if-e-ne0.false in it)).1 p r (rw (back, back2) at c.new_matrix-m.ensures)
+    matrix-taken _ _ _ _ _ _ (entry-at _ _ _ c.entry_for-e.ensures c.if-e-ne0.false).0 (entry-at _ _ _ c.entry_for-e.ensures c.if-e-ne0.false).1 p r (rw (back, back2) at c.new_matrix-m.ensures)

@@ -21,33 +21,33 @@ returns-then-e-ne0 c = entry-refused _ _ _ _ _ _ c.entry_for-e.ensures c.if-e-ne
 
 pub returns-then-last-gt15 : goal.returns-then-last-gt15
 unfolding set_transition_reply
-returns-then-last-gt15 c = category-refused _ _ _ _ _ ((let it : (valid c.args.board ≡ true) × (lookup c.args.board c.args.number ≡ at c.entry_for-e.result.place) = entry-at _ _ _ c.entry_for-e.ensures c.if-e-ne0.false in it)).0 (rw (lt-leb _ _ c.if-last-gt15.true) refl)
+returns-then-last-gt15 c = category-refused _ _ _ _ _ (entry-at _ _ _ c.entry_for-e.ensures c.if-e-ne0.false).0 (rw (lt-leb _ _ c.if-last-gt15.true) refl)
 
 pub returns-then-this-gt15 : goal.returns-then-this-gt15
 unfolding set_transition_reply
-returns-then-this-gt15 c = category-refused _ _ _ _ _ ((let it : (valid c.args.board ≡ true) × (lookup c.args.board c.args.number ≡ at c.entry_for-e.result.place) = entry-at _ _ _ c.entry_for-e.ensures c.if-e-ne0.false in it)).0 (rw (le-leb _ _ c.if-last-gt15.false, lt-leb _ _ c.if-this-gt15.true) refl)
+returns-then-this-gt15 c = category-refused _ _ _ _ _ (entry-at _ _ _ c.entry_for-e.ensures c.if-e-ne0.false).0 (rw (le-leb _ _ c.if-last-gt15.false, lt-leb _ _ c.if-this-gt15.true) refl)
 
 pub returns-then-not-entry_right : goal.returns-then-not-entry_right
 unfolding set_transition_reply
 returns-then-not-entry_right c =
     let back = to_z-of_z w64 c.args.ms c.ranges.ms in
     let p = sym (rw back at c.entry_right.ensures) ∙ c.if-not-entry_right.true in
-    entry-wrong _ _ _ _ _ _ ((let it : (valid c.args.board ≡ true) × (lookup c.args.board c.args.number ≡ at c.entry_for-e.result.place) = entry-at _ _ _ c.entry_for-e.ensures c.if-e-ne0.false in it)).0 ((let it : (valid c.args.board ≡ true) × (lookup c.args.board c.args.number ≡ at c.entry_for-e.result.place) = entry-at _ _ _ c.entry_for-e.ensures c.if-e-ne0.false in it)).1 (rw (le-leb _ _ c.if-last-gt15.false, le-leb _ _ c.if-this-gt15.false) refl) p
+    entry-wrong _ _ _ _ _ _ (entry-at _ _ _ c.entry_for-e.ensures c.if-e-ne0.false).0 (entry-at _ _ _ c.entry_for-e.ensures c.if-e-ne0.false).1 (rw (le-leb _ _ c.if-last-gt15.false, le-leb _ _ c.if-this-gt15.false) refl) p
 
 pub offset_bounds-b-i : goal.offset_bounds-b-i
-offset_bounds-b-i c = record { fits = omega (arith, (let it : c.entry_for-e.result.place < 16 = found_below _ _ _ ((let it : (valid c.args.board ≡ true) × (lookup c.args.board c.args.number ≡ at c.entry_for-e.result.place) = entry-at _ _ _ c.entry_for-e.ensures c.if-e-ne0.false in it)).0 ((let it : (valid c.args.board ≡ true) × (lookup c.args.board c.args.number ≡ at c.entry_for-e.result.place) = entry-at _ _ _ c.entry_for-e.ensures c.if-e-ne0.false in it)).1 in it)) }
+offset_bounds-b-i c = record { fits = omega (arith, (found_below _ _ _ (entry-at _ _ _ c.entry_for-e.ensures c.if-e-ne0.false).0 (entry-at _ _ _ c.entry_for-e.ensures c.if-e-ne0.false).1)) }
 
 pub bounds-b-i : goal.bounds-b-i
-bounds-b-i c = omega (arith, (let it : c.entry_for-e.result.place < 16 = found_below _ _ _ ((let it : (valid c.args.board ≡ true) × (lookup c.args.board c.args.number ≡ at c.entry_for-e.result.place) = entry-at _ _ _ c.entry_for-e.ensures c.if-e-ne0.false in it)).0 ((let it : (valid c.args.board ≡ true) × (lookup c.args.board c.args.number ≡ at c.entry_for-e.result.place) = entry-at _ _ _ c.entry_for-e.ensures c.if-e-ne0.false in it)).1 in it))
+bounds-b-i c = omega (arith, (found_below _ _ _ (entry-at _ _ _ c.entry_for-e.ensures c.if-e-ne0.false).0 (entry-at _ _ _ c.entry_for-e.ensures c.if-e-ne0.false).1))
 
 pub offset_bounds-b-i-2 : goal.offset_bounds-b-i-2
-offset_bounds-b-i-2 c = record { fits = omega (arith, (let it : c.entry_for-e.result.place < 16 = found_below _ _ _ ((let it : (valid c.args.board ≡ true) × (lookup c.args.board c.args.number ≡ at c.entry_for-e.result.place) = entry-at _ _ _ c.entry_for-e.ensures c.if-e-ne0.false in it)).0 ((let it : (valid c.args.board ≡ true) × (lookup c.args.board c.args.number ≡ at c.entry_for-e.result.place) = entry-at _ _ _ c.entry_for-e.ensures c.if-e-ne0.false in it)).1 in it)) }
+offset_bounds-b-i-2 c = record { fits = omega (arith, (found_below _ _ _ (entry-at _ _ _ c.entry_for-e.ensures c.if-e-ne0.false).0 (entry-at _ _ _ c.entry_for-e.ensures c.if-e-ne0.false).1)) }
 
 pub bounds-b-i-2 : goal.bounds-b-i-2
-bounds-b-i-2 c = omega (arith, (let it : c.entry_for-e.result.place < 16 = found_below _ _ _ ((let it : (valid c.args.board ≡ true) × (lookup c.args.board c.args.number ≡ at c.entry_for-e.result.place) = entry-at _ _ _ c.entry_for-e.ensures c.if-e-ne0.false in it)).0 ((let it : (valid c.args.board ≡ true) × (lookup c.args.board c.args.number ≡ at c.entry_for-e.result.place) = entry-at _ _ _ c.entry_for-e.ensures c.if-e-ne0.false in it)).1 in it))
+bounds-b-i-2 c = omega (arith, (found_below _ _ _ (entry-at _ _ _ c.entry_for-e.ensures c.if-e-ne0.false).0 (entry-at _ _ _ c.entry_for-e.ensures c.if-e-ne0.false).1))
 
 pub returns : goal.returns
 returns c =
     let back = to_z-of_z w64 c.args.ms c.ranges.ms in
     let p = sym (rw back at c.entry_right.ensures) ∙ c.if-not-entry_right.false in
-    transition-taken _ _ _ _ _ ((let it : (valid c.args.board ≡ true) × (lookup c.args.board c.args.number ≡ at c.entry_for-e.result.place) = entry-at _ _ _ c.entry_for-e.ensures c.if-e-ne0.false in it)).0 ((let it : (valid c.args.board ≡ true) × (lookup c.args.board c.args.number ≡ at c.entry_for-e.result.place) = entry-at _ _ _ c.entry_for-e.ensures c.if-e-ne0.false in it)).1 p _ _ (omega arith) (omega arith) (rw back at c.with_transition-m.ensures)
+    transition-taken _ _ _ _ _ (entry-at _ _ _ c.entry_for-e.ensures c.if-e-ne0.false).0 (entry-at _ _ _ c.entry_for-e.ensures c.if-e-ne0.false).1 p _ _ (omega arith) (omega arith) (rw back at c.with_transition-m.ensures)

@@ -17,38 +17,38 @@ pub returns-then-not-p : goal.returns-then-not-p
 returns-then-not-p c = add-15 _ _ _ _ (sym c.places_of-p.ensures.0 ∙ not-true _ c.if-not-p.true)
 
 pub returns-then-not-is_valid : goal.returns-then-not-is_valid
-returns-then-not-is_valid c = add-diary _ _ _ _ ((let it : valid c.args.b ≡ true = sym c.places_of-p.ensures.0 ∙ not-false _ c.if-not-p.false in it)) (sym c.is_valid.ensures ∙ c.if-not-is_valid.true)
+returns-then-not-is_valid c = add-diary _ _ _ _ (sym c.places_of-p.ensures.0 ∙ not-false _ c.if-not-p.false) (sym c.is_valid.ensures ∙ c.if-not-is_valid.true)
 
 pub returns-then-number-gt15 : goal.returns-then-number-gt15
-returns-then-number-gt15 c = add-number _ _ _ _ ((let it : valid c.args.b ≡ true = sym c.places_of-p.ensures.0 ∙ not-false _ c.if-not-p.false in it)) ((let it : timeline.valid c.args.timeline ≡ true = sym c.is_valid.ensures ∙ c.if-not-is_valid.false in it)) (omega arith)
+returns-then-number-gt15 c = add-number _ _ _ _ (sym c.places_of-p.ensures.0 ∙ not-false _ c.if-not-p.false) (sym c.is_valid.ensures ∙ c.if-not-is_valid.false) (omega arith)
 
 pub returns-then-not-numbers_right : goal.returns-then-not-numbers_right
 returns-then-not-numbers_right c =
-    add-companion _ _ _ _ ((let it : valid c.args.b ≡ true = sym c.places_of-p.ensures.0 ∙ not-false _ c.if-not-p.false in it)) ((let it : timeline.valid c.args.timeline ≡ true = sym c.is_valid.ensures ∙ c.if-not-is_valid.false in it)) (omega arith) (sym c.numbers_right.ensures ∙ c.if-not-numbers_right.true)
+    add-companion _ _ _ _ (sym c.places_of-p.ensures.0 ∙ not-false _ c.if-not-p.false) (sym c.is_valid.ensures ∙ c.if-not-is_valid.false) (omega arith) (sym c.numbers_right.ensures ∙ c.if-not-numbers_right.true)
 
 pub returns-then-is_on : goal.returns-then-is_on
 returns-then-is_on c =
     add-there _ _ _ _ ((let it : Passed c.args.b c.args.number c.args.companions.now c.args.timeline = record {
-      board = (let it : valid c.args.b ≡ true = sym c.places_of-p.ensures.0 ∙ not-false _ c.if-not-p.false in it);
-      diary = (let it : timeline.valid c.args.timeline ≡ true = sym c.is_valid.ensures ∙ c.if-not-is_valid.false in it);
+      board = (sym c.places_of-p.ensures.0 ∙ not-false _ c.if-not-p.false);
+      diary = (sym c.is_valid.ensures ∙ c.if-not-is_valid.false);
       low = omega arith;
       each = sym c.numbers_right.ensures ∙ c.if-not-numbers_right.false;
-    } in it)) (sym ((let it : leb c.args.number 15 && ltb (get_or c.places_of-p.result.places c.args.number 0) 16 ≡ on_board c.args.b c.args.number = on-is _ _ c.places_of-p.result.places ((let it : valid c.args.b ≡ true = sym c.places_of-p.ensures.0 ∙ not-false _ c.if-not-p.false in it)) (c.places_of-p.ensures.1 ((let it : valid c.args.b ≡ true = sym c.places_of-p.ensures.0 ∙ not-false _ c.if-not-p.false in it))).0 in it)) ∙ sym c.is_on.ensures ∙ c.if-is_on.true)
+    } in it)) (sym (on-is _ _ c.places_of-p.result.places (sym c.places_of-p.ensures.0 ∙ not-false _ c.if-not-p.false) (c.places_of-p.ensures.1 (sym c.places_of-p.ensures.0 ∙ not-false _ c.if-not-p.false)).0) ∙ sym c.is_on.ensures ∙ c.if-is_on.true)
 
 pub returns-then-companions-gt4 : goal.returns-then-companions-gt4
 returns-then-companions-gt4 c =
     add-many _ _ _ _ ((let it : Passed c.args.b c.args.number c.args.companions.now c.args.timeline = record {
-      board = (let it : valid c.args.b ≡ true = sym c.places_of-p.ensures.0 ∙ not-false _ c.if-not-p.false in it);
-      diary = (let it : timeline.valid c.args.timeline ≡ true = sym c.is_valid.ensures ∙ c.if-not-is_valid.false in it);
+      board = (sym c.places_of-p.ensures.0 ∙ not-false _ c.if-not-p.false);
+      diary = (sym c.is_valid.ensures ∙ c.if-not-is_valid.false);
       low = omega arith;
       each = sym c.numbers_right.ensures ∙ c.if-not-numbers_right.false;
-    } in it)) (sym ((let it : leb c.args.number 15 && ltb (get_or c.places_of-p.result.places c.args.number 0) 16 ≡ on_board c.args.b c.args.number = on-is _ _ c.places_of-p.result.places ((let it : valid c.args.b ≡ true = sym c.places_of-p.ensures.0 ∙ not-false _ c.if-not-p.false in it)) (c.places_of-p.ensures.1 ((let it : valid c.args.b ≡ true = sym c.places_of-p.ensures.0 ∙ not-false _ c.if-not-p.false in it))).0 in it)) ∙ sym c.is_on.ensures ∙ c.if-is_on.false) (omega arith)
+    } in it)) (sym (on-is _ _ c.places_of-p.result.places (sym c.places_of-p.ensures.0 ∙ not-false _ c.if-not-p.false) (c.places_of-p.ensures.1 (sym c.places_of-p.ensures.0 ∙ not-false _ c.if-not-p.false)).0) ∙ sym c.is_on.ensures ∙ c.if-is_on.false) (omega arith)
 
 pub returns : goal.returns
 returns c =
     add-0 _ _ _ _ ((let it : Passed c.args.b c.args.number c.args.companions.now c.args.timeline = record {
-      board = (let it : valid c.args.b ≡ true = sym c.places_of-p.ensures.0 ∙ not-false _ c.if-not-p.false in it);
-      diary = (let it : timeline.valid c.args.timeline ≡ true = sym c.is_valid.ensures ∙ c.if-not-is_valid.false in it);
+      board = (sym c.places_of-p.ensures.0 ∙ not-false _ c.if-not-p.false);
+      diary = (sym c.is_valid.ensures ∙ c.if-not-is_valid.false);
       low = omega arith;
       each = sym c.numbers_right.ensures ∙ c.if-not-numbers_right.false;
-    } in it)) (sym ((let it : leb c.args.number 15 && ltb (get_or c.places_of-p.result.places c.args.number 0) 16 ≡ on_board c.args.b c.args.number = on-is _ _ c.places_of-p.result.places ((let it : valid c.args.b ≡ true = sym c.places_of-p.ensures.0 ∙ not-false _ c.if-not-p.false in it)) (c.places_of-p.ensures.1 ((let it : valid c.args.b ≡ true = sym c.places_of-p.ensures.0 ∙ not-false _ c.if-not-p.false in it))).0 in it)) ∙ sym c.is_on.ensures ∙ c.if-is_on.false) (omega arith)
+    } in it)) (sym (on-is _ _ c.places_of-p.result.places (sym c.places_of-p.ensures.0 ∙ not-false _ c.if-not-p.false) (c.places_of-p.ensures.1 (sym c.places_of-p.ensures.0 ∙ not-false _ c.if-not-p.false)).0) ∙ sym c.is_on.ensures ∙ c.if-is_on.false) (omega arith)

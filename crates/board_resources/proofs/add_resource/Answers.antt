@@ -15,14 +15,14 @@ pub companion_cells-cells-requires : goal.companion_cells-cells-requires
 companion_cells-cells-requires c = (add-taken _ _ _ _ (sym c.add_refusal-refusal.ensures ∙ c.if-refusal-ne0.false)).few
 
 pub offset_bounds-b-n : goal.offset_bounds-b-n
-offset_bounds-b-n c = record { fits = omega (arith, (add-taken _ _ _ _ ((let it : add_refusal c.args.board c.args.number c.args.companions.now c.args.timeline ≡ 0 = sym c.add_refusal-refusal.ensures ∙ c.if-refusal-ne0.false in it))).room) }
+offset_bounds-b-n c = record { fits = omega (arith, (add-taken _ _ _ _ (sym c.add_refusal-refusal.ensures ∙ c.if-refusal-ne0.false)).room) }
 
 pub bounds-b-n : goal.bounds-b-n
-bounds-b-n c = omega (arith, (add-taken _ _ _ _ ((let it : add_refusal c.args.board c.args.number c.args.companions.now c.args.timeline ≡ 0 = sym c.add_refusal-refusal.ensures ∙ c.if-refusal-ne0.false in it))).room)
+bounds-b-n c = omega (arith, (add-taken _ _ _ _ (sym c.add_refusal-refusal.ensures ∙ c.if-refusal-ne0.false)).room)
 
 pub overflow_add-b : goal.overflow_add-b
-overflow_add-b c = record { fits = omega (arith, (add-taken _ _ _ _ ((let it : add_refusal c.args.board c.args.number c.args.companions.now c.args.timeline ≡ 0 = sym c.add_refusal-refusal.ensures ∙ c.if-refusal-ne0.false in it))).room) }
+overflow_add-b c = record { fits = omega (arith, (add-taken _ _ _ _ (sym c.add_refusal-refusal.ensures ∙ c.if-refusal-ne0.false)).room) }
 
 pub returns : goal.returns
 unfolding add_resource_reply with_new
-returns c = rw (c.companion_cells-cells.ensures, c.blank_resource-r.ensures) (taken-by _ _ _ ((let it : add_refusal c.args.board c.args.number c.args.companions.now c.args.timeline ≡ 0 = sym c.add_refusal-refusal.ensures ∙ c.if-refusal-ne0.false in it)))
+returns c = rw (c.companion_cells-cells.ensures, c.blank_resource-r.ensures) (taken-by _ _ _ (sym c.add_refusal-refusal.ensures ∙ c.if-refusal-ne0.false))

@@ -18,16 +18,16 @@ returns-then-not-p c = transport-15 _ _ _ _ (sym c.places_of-p.ensures.0 ∙ not
 
 pub returns-then-not-is_on : goal.returns-then-not-is_on
 returns-then-not-is_on c =
-    transport-from _ _ _ _ ((let it : valid c.args.b ≡ true = sym c.places_of-p.ensures.0 ∙ not-false _ c.if-not-p.false in it)) (sym ((let it : (n : ℕ) → leb n 15 && ltb (get_or c.places_of-p.result.places n 0) 16 ≡ on_board c.args.b n = λ n. (on-is _ n c.places_of-p.result.places ((let it : valid c.args.b ≡ true = sym c.places_of-p.ensures.0 ∙ not-false _ c.if-not-p.false in it)) (c.places_of-p.ensures.1 ((let it : valid c.args.b ≡ true = sym c.places_of-p.ensures.0 ∙ not-false _ c.if-not-p.false in it))).0) in it) _) ∙ sym c.is_on.ensures ∙ c.if-not-is_on.true)
+    transport-from _ _ _ _ (sym c.places_of-p.ensures.0 ∙ not-false _ c.if-not-p.false) (sym (on-is _ _ c.places_of-p.result.places (sym c.places_of-p.ensures.0 ∙ not-false _ c.if-not-p.false) (c.places_of-p.ensures.1 (sym c.places_of-p.ensures.0 ∙ not-false _ c.if-not-p.false)).0) ∙ sym c.is_on.ensures ∙ c.if-not-is_on.true)
 
 pub returns-then-not-is_on-2 : goal.returns-then-not-is_on-2
 returns-then-not-is_on-2 c =
-    transport-to _ _ _ _ ((let it : valid c.args.b ≡ true = sym c.places_of-p.ensures.0 ∙ not-false _ c.if-not-p.false in it)) (sym ((let it : (n : ℕ) → leb n 15 && ltb (get_or c.places_of-p.result.places n 0) 16 ≡ on_board c.args.b n = λ n. (on-is _ n c.places_of-p.result.places ((let it : valid c.args.b ≡ true = sym c.places_of-p.ensures.0 ∙ not-false _ c.if-not-p.false in it)) (c.places_of-p.ensures.1 ((let it : valid c.args.b ≡ true = sym c.places_of-p.ensures.0 ∙ not-false _ c.if-not-p.false in it))).0) in it) _) ∙ sym c.is_on-2.ensures ∙ c.if-not-is_on-2.true)
+    transport-to _ _ _ _ (sym c.places_of-p.ensures.0 ∙ not-false _ c.if-not-p.false) (sym (on-is _ _ c.places_of-p.result.places (sym c.places_of-p.ensures.0 ∙ not-false _ c.if-not-p.false) (c.places_of-p.ensures.1 (sym c.places_of-p.ensures.0 ∙ not-false _ c.if-not-p.false)).0) ∙ sym c.is_on-2.ensures ∙ c.if-not-is_on-2.true)
 
 pub returns-then-ms-gt-LONGEST_DURATION : goal.returns-then-ms-gt-LONGEST_DURATION
 returns-then-ms-gt-LONGEST_DURATION c =
-    transport-1 _ _ _ _ ((let it : valid c.args.b ≡ true = sym c.places_of-p.ensures.0 ∙ not-false _ c.if-not-p.false in it)) (sym ((let it : (n : ℕ) → leb n 15 && ltb (get_or c.places_of-p.result.places n 0) 16 ≡ on_board c.args.b n = λ n. (on-is _ n c.places_of-p.result.places ((let it : valid c.args.b ≡ true = sym c.places_of-p.ensures.0 ∙ not-false _ c.if-not-p.false in it)) (c.places_of-p.ensures.1 ((let it : valid c.args.b ≡ true = sym c.places_of-p.ensures.0 ∙ not-false _ c.if-not-p.false in it))).0) in it) _) ∙ sym c.is_on.ensures ∙ c.if-not-is_on.false) (sym ((let it : (n : ℕ) → leb n 15 && ltb (get_or c.places_of-p.result.places n 0) 16 ≡ on_board c.args.b n = λ n. (on-is _ n c.places_of-p.result.places ((let it : valid c.args.b ≡ true = sym c.places_of-p.ensures.0 ∙ not-false _ c.if-not-p.false in it)) (c.places_of-p.ensures.1 ((let it : valid c.args.b ≡ true = sym c.places_of-p.ensures.0 ∙ not-false _ c.if-not-p.false in it))).0) in it) _) ∙ sym c.is_on-2.ensures ∙ c.if-not-is_on-2.false) (omega arith)
+    transport-1 _ _ _ _ (sym c.places_of-p.ensures.0 ∙ not-false _ c.if-not-p.false) (sym (on-is _ _ c.places_of-p.result.places (sym c.places_of-p.ensures.0 ∙ not-false _ c.if-not-p.false) (c.places_of-p.ensures.1 (sym c.places_of-p.ensures.0 ∙ not-false _ c.if-not-p.false)).0) ∙ sym c.is_on.ensures ∙ c.if-not-is_on.false) (sym (on-is _ _ c.places_of-p.result.places (sym c.places_of-p.ensures.0 ∙ not-false _ c.if-not-p.false) (c.places_of-p.ensures.1 (sym c.places_of-p.ensures.0 ∙ not-false _ c.if-not-p.false)).0) ∙ sym c.is_on-2.ensures ∙ c.if-not-is_on-2.false) (omega arith)
 
 pub returns : goal.returns
 returns c =
-    transport-0 _ _ _ _ ((let it : valid c.args.b ≡ true = sym c.places_of-p.ensures.0 ∙ not-false _ c.if-not-p.false in it)) (sym ((let it : (n : ℕ) → leb n 15 && ltb (get_or c.places_of-p.result.places n 0) 16 ≡ on_board c.args.b n = λ n. (on-is _ n c.places_of-p.result.places ((let it : valid c.args.b ≡ true = sym c.places_of-p.ensures.0 ∙ not-false _ c.if-not-p.false in it)) (c.places_of-p.ensures.1 ((let it : valid c.args.b ≡ true = sym c.places_of-p.ensures.0 ∙ not-false _ c.if-not-p.false in it))).0) in it) _) ∙ sym c.is_on.ensures ∙ c.if-not-is_on.false) (sym ((let it : (n : ℕ) → leb n 15 && ltb (get_or c.places_of-p.result.places n 0) 16 ≡ on_board c.args.b n = λ n. (on-is _ n c.places_of-p.result.places ((let it : valid c.args.b ≡ true = sym c.places_of-p.ensures.0 ∙ not-false _ c.if-not-p.false in it)) (c.places_of-p.ensures.1 ((let it : valid c.args.b ≡ true = sym c.places_of-p.ensures.0 ∙ not-false _ c.if-not-p.false in it))).0) in it) _) ∙ sym c.is_on-2.ensures ∙ c.if-not-is_on-2.false) (omega arith)
+    transport-0 _ _ _ _ (sym c.places_of-p.ensures.0 ∙ not-false _ c.if-not-p.false) (sym (on-is _ _ c.places_of-p.result.places (sym c.places_of-p.ensures.0 ∙ not-false _ c.if-not-p.false) (c.places_of-p.ensures.1 (sym c.places_of-p.ensures.0 ∙ not-false _ c.if-not-p.false)).0) ∙ sym c.is_on.ensures ∙ c.if-not-is_on.false) (sym (on-is _ _ c.places_of-p.result.places (sym c.places_of-p.ensures.0 ∙ not-false _ c.if-not-p.false) (c.places_of-p.ensures.1 (sym c.places_of-p.ensures.0 ∙ not-false _ c.if-not-p.false)).0) ∙ sym c.is_on-2.ensures ∙ c.if-not-is_on-2.false) (omega arith)

@@ -114,10 +114,7 @@ bounds-a-k c = omega (arith, c.loop-x.invariant.four, c.if-k-a.false)
 
 pub member_of-m-requires : goal.member_of-m-requires
 member_of-m-requires c =
-    let n = (let it : Next c.args.b c.args.a c.args.ready (c.loop-x.k % 16) c.loop-x.x.instant (requirement_at c.args.a (c.loop-x.k / 16)) (get_or c.loop-x.plans (c.loop-x.k % 16) no_plan) c.loop-x.g = let b = c.args.b in
-    let u = c.loop-x in
-    let all : u.planned ≡ b.len = omega (arith, u.invariant.most, c.if-planned-b.false) in
-    next-asked b c.requires.0 c.args.a c.args.ready c.requires.1 c.requires.2 u.plans u.asked u.starts u.x u.g u.planned u.k u.invariant (not-true _ c.loop-x-test.true) c.if-k-a.false all (sym c.is_asked.ensures ∙ c.if-is_asked.true) in it) in
+    let n = (let all : c.loop-x.planned ≡ c.args.b.len = omega (arith, c.loop-x.invariant.most, c.if-planned-b.false) in next-asked c.args.b c.requires.0 c.args.a c.args.ready c.requires.1 c.requires.2 c.loop-x.plans c.loop-x.asked c.loop-x.starts c.loop-x.x c.loop-x.g c.loop-x.planned c.loop-x.k c.loop-x.invariant (not-true _ c.loop-x-test.true) c.if-k-a.false all (sym c.is_asked.ensures ∙ c.if-is_asked.true)) in
     let r = companions-range _ _ _ _ _ _ c.requires.0 c.requires.1 c.args.places c.requires.3 _ _ n in
     (number-range _ _ _ _ _ _ c.requires.0 c.requires.1 c.args.places c.requires.3 _ _ n, r.0, r.1)
 
@@ -129,10 +126,7 @@ bounds-b-place c = c.if-place-lt16.true
 
 pub start_on-s-requires : goal.start_on-s-requires
 start_on-s-requires c =
-    let n = (let it : Next c.args.b c.args.a c.args.ready (c.loop-x.k % 16) c.loop-x.x.instant (requirement_at c.args.a (c.loop-x.k / 16)) (get_or c.loop-x.plans (c.loop-x.k % 16) no_plan) c.loop-x.g = let b = c.args.b in
-    let u = c.loop-x in
-    let all : u.planned ≡ b.len = omega (arith, u.invariant.most, c.if-planned-b.false) in
-    next-asked b c.requires.0 c.args.a c.args.ready c.requires.1 c.requires.2 u.plans u.asked u.starts u.x u.g u.planned u.k u.invariant (not-true _ c.loop-x-test.true) c.if-k-a.false all (sym c.is_asked.ensures ∙ c.if-is_asked.true) in it) in
+    let n = (let all : c.loop-x.planned ≡ c.args.b.len = omega (arith, c.loop-x.invariant.most, c.if-planned-b.false) in next-asked c.args.b c.requires.0 c.args.a c.args.ready c.requires.1 c.requires.2 c.loop-x.plans c.loop-x.asked c.loop-x.starts c.loop-x.x c.loop-x.g c.loop-x.planned c.loop-x.k c.loop-x.invariant (not-true _ c.loop-x-test.true) c.if-k-a.false all (sym c.is_asked.ensures ∙ c.if-is_asked.true)) in
     let e = c.member_of-m.ensures in
     let h = c.if-place-lt16.true in
     (diary-kept _ _ _ _ _ _ c.requires.0 c.requires.1 c.args.places c.requires.3 _ _ n _ e h, from-small _ _ _ _ _ _ c.requires.0 c.requires.1 c.args.places c.requires.3 _ _ n _ e h, span_small _ _ _ _ _ _ c.requires.0 c.requires.1 c.args.places c.requires.3 _ _ n, units-some _ _ _ _ _ _ c.requires.0 c.requires.1 c.args.places c.requires.3 _ _ n _ e h)
@@ -140,14 +134,8 @@ start_on-s-requires c =
 pub answered-g-requires : goal.answered-g-requires
 answered-g-requires c = omega (
   arith,
-  ((let it : Next c.args.b c.args.a c.args.ready (c.loop-x.k % 16) c.loop-x.x.instant (requirement_at c.args.a (c.loop-x.k / 16)) (get_or c.loop-x.plans (c.loop-x.k % 16) no_plan) c.loop-x.g = let b = c.args.b in
-      let u = c.loop-x in
-      let all : u.planned ≡ b.len = omega (arith, u.invariant.most, c.if-planned-b.false) in
-      next-asked b c.requires.0 c.args.a c.args.ready c.requires.1 c.requires.2 u.plans u.asked u.starts u.x u.g u.planned u.k u.invariant (not-true _ c.loop-x-test.true) c.if-k-a.false all (sym c.is_asked.ensures ∙ c.if-is_asked.true) in it)).go.few,
-  (resource-of c.args.b c.requires.0 (c.loop-x.k % 16) ((let it : Next c.args.b c.args.a c.args.ready (c.loop-x.k % 16) c.loop-x.x.instant (requirement_at c.args.a (c.loop-x.k / 16)) (get_or c.loop-x.plans (c.loop-x.k % 16) no_plan) c.loop-x.g = let b = c.args.b in
-      let u = c.loop-x in
-      let all : u.planned ≡ b.len = omega (arith, u.invariant.most, c.if-planned-b.false) in
-      next-asked b c.requires.0 c.args.a c.args.ready c.requires.1 c.requires.2 u.plans u.asked u.starts u.x u.g u.planned u.k u.invariant (not-true _ c.loop-x-test.true) c.if-k-a.false all (sym c.is_asked.ensures ∙ c.if-is_asked.true) in it)).here).few,
+  (let all : c.loop-x.planned ≡ c.args.b.len = omega (arith, c.loop-x.invariant.most, c.if-planned-b.false) in next-asked c.args.b c.requires.0 c.args.a c.args.ready c.requires.1 c.requires.2 c.loop-x.plans c.loop-x.asked c.loop-x.starts c.loop-x.x c.loop-x.g c.loop-x.planned c.loop-x.k c.loop-x.invariant (not-true _ c.loop-x-test.true) c.if-k-a.false all (sym c.is_asked.ensures ∙ c.if-is_asked.true)).go.few,
+  (resource-of c.args.b c.requires.0 (c.loop-x.k % 16) (let all : c.loop-x.planned ≡ c.args.b.len = omega (arith, c.loop-x.invariant.most, c.if-planned-b.false) in next-asked c.args.b c.requires.0 c.args.a c.args.ready c.requires.1 c.requires.2 c.loop-x.plans c.loop-x.asked c.loop-x.starts c.loop-x.x c.loop-x.g c.loop-x.planned c.loop-x.k c.loop-x.invariant (not-true _ c.loop-x-test.true) c.if-k-a.false all (sym c.is_asked.ensures ∙ c.if-is_asked.true)).here).few,
 )
 
 pub offset_bounds-asked-k-then-g-p : goal.offset_bounds-asked-k-then-g-p
@@ -162,71 +150,53 @@ offset_bounds-starts-k-then-g-p c = record { fits = omega (arith, c.loop-x.invar
 pub bounds-starts-k-then-g-p : goal.bounds-starts-k-then-g-p
 bounds-starts-k-then-g-p c = omega (arith, c.loop-x.invariant.four, c.if-k-a.false)
 
+-- the reply of the resource that was asked
+told-ended : (c : goal.Then-g-p) → Told c.args.b c.args.a c.args.ready (c.loop-x.k % 16) c.loop-x.x.instant (requirement_at c.args.a (c.loop-x.k / 16)) c.loop-x.g c.answered-g.result
+unfolding start_of
+told-ended c =
+    let n = (let all : c.loop-x.planned ≡ c.args.b.len = omega (arith, c.loop-x.invariant.most, c.if-planned-b.false) in next-asked c.args.b c.requires.0 c.args.a c.args.ready c.requires.1 c.requires.2 c.loop-x.plans c.loop-x.asked c.loop-x.starts c.loop-x.x c.loop-x.g c.loop-x.planned c.loop-x.k c.loop-x.invariant (not-true _ c.loop-x-test.true) c.if-k-a.false all (sym c.is_asked.ensures ∙ c.if-is_asked.true)) in
+    let e = c.member_of-m.ensures in
+    rw c.answered-g.ensures
+    (elim c.if-place-lt16.branch [ then-place-lt16 y ↦ told-asked _ _ _ _ _ _ c.requires.0 c.requires.1 c.args.places c.requires.3 _ _ n _ e y.if-place-lt16.true _ (ap start_of y.s-is ∙ y.start_on-s.ensures) | else-place-lt16 y ↦ rw y.s-is (told-nowhere _ _ _ _ _ _ c.requires.0 c.requires.1 c.args.places c.requires.3 _ _ n _ e y.if-place-lt16.false) ])
+
 pub loop-x-smaller-then-g-p : goal.loop-x-smaller-then-g-p
 unfolding start_of
 loop-x-smaller-then-g-p c =
     let u = c.loop-x in
-    let n = (let it : Next c.args.b c.args.a c.args.ready (c.loop-x.k % 16) c.loop-x.x.instant (requirement_at c.args.a (c.loop-x.k / 16)) (get_or c.loop-x.plans (c.loop-x.k % 16) no_plan) c.loop-x.g = let b = c.args.b in
-    let u = c.loop-x in
-    let all : u.planned ≡ b.len = omega (arith, u.invariant.most, c.if-planned-b.false) in
-    next-asked b c.requires.0 c.args.a c.args.ready c.requires.1 c.requires.2 u.plans u.asked u.starts u.x u.g u.planned u.k u.invariant (not-true _ c.loop-x-test.true) c.if-k-a.false all (sym c.is_asked.ensures ∙ c.if-is_asked.true) in it) in
-    left-asked c.args.b c.requires.0 c.args.a c.args.ready c.requires.1 c.requires.2 u.plans u.asked u.starts u.x u.g u.planned u.k u.invariant (not-true _ c.loop-x-test.true) c.if-k-a.false n.here c.answered-g.result ((let it : Told c.args.b c.args.a c.args.ready (c.loop-x.k % 16) c.loop-x.x.instant (requirement_at c.args.a (c.loop-x.k / 16)) c.loop-x.g c.answered-g.result = let n = (let it : Next c.args.b c.args.a c.args.ready (c.loop-x.k % 16) c.loop-x.x.instant (requirement_at c.args.a (c.loop-x.k / 16)) (get_or c.loop-x.plans (c.loop-x.k % 16) no_plan) c.loop-x.g = let b = c.args.b in
-    let u = c.loop-x in
-    let all : u.planned ≡ b.len = omega (arith, u.invariant.most, c.if-planned-b.false) in
-    next-asked b c.requires.0 c.args.a c.args.ready c.requires.1 c.requires.2 u.plans u.asked u.starts u.x u.g u.planned u.k u.invariant (not-true _ c.loop-x-test.true) c.if-k-a.false all (sym c.is_asked.ensures ∙ c.if-is_asked.true) in it) in
-    let e = c.member_of-m.ensures in
-    rw c.answered-g.ensures
-    (elim c.if-place-lt16.branch [ then-place-lt16 y ↦ told-asked _ _ _ _ _ _ c.requires.0 c.requires.1 c.args.places c.requires.3 _ _ n _ e y.if-place-lt16.true _ (ap start_of y.s-is ∙ y.start_on-s.ensures) | else-place-lt16 y ↦ rw y.s-is (told-nowhere _ _ _ _ _ _ c.requires.0 c.requires.1 c.args.places c.requires.3 _ _ n _ e y.if-place-lt16.false) ]) in it))
+    let n = (let all : c.loop-x.planned ≡ c.args.b.len = omega (arith, c.loop-x.invariant.most, c.if-planned-b.false) in next-asked c.args.b c.requires.0 c.args.a c.args.ready c.requires.1 c.requires.2 c.loop-x.plans c.loop-x.asked c.loop-x.starts c.loop-x.x c.loop-x.g c.loop-x.planned c.loop-x.k c.loop-x.invariant (not-true _ c.loop-x-test.true) c.if-k-a.false all (sym c.is_asked.ensures ∙ c.if-is_asked.true)) in
+    left-asked c.args.b c.requires.0 c.args.a c.args.ready c.requires.1 c.requires.2 u.plans u.asked u.starts u.x u.g u.planned u.k u.invariant (not-true _ c.loop-x-test.true) c.if-k-a.false n.here c.answered-g.result (told-ended c)
 
 pub loop-x-preserved-then-g-p : goal.loop-x-preserved-then-g-p
 unfolding start_of
 loop-x-preserved-then-g-p c =
     let u = c.loop-x in
-    let n = (let it : Next c.args.b c.args.a c.args.ready (c.loop-x.k % 16) c.loop-x.x.instant (requirement_at c.args.a (c.loop-x.k / 16)) (get_or c.loop-x.plans (c.loop-x.k % 16) no_plan) c.loop-x.g = let b = c.args.b in
-    let u = c.loop-x in
-    let all : u.planned ≡ b.len = omega (arith, u.invariant.most, c.if-planned-b.false) in
-    next-asked b c.requires.0 c.args.a c.args.ready c.requires.1 c.requires.2 u.plans u.asked u.starts u.x u.g u.planned u.k u.invariant (not-true _ c.loop-x-test.true) c.if-k-a.false all (sym c.is_asked.ensures ∙ c.if-is_asked.true) in it) in
+    let n = (let all : c.loop-x.planned ≡ c.args.b.len = omega (arith, c.loop-x.invariant.most, c.if-planned-b.false) in next-asked c.args.b c.requires.0 c.args.a c.args.ready c.requires.1 c.requires.2 c.loop-x.plans c.loop-x.asked c.loop-x.starts c.loop-x.x c.loop-x.g c.loop-x.planned c.loop-x.k c.loop-x.invariant (not-true _ c.loop-x-test.true) c.if-k-a.false all (sym c.is_asked.ensures ∙ c.if-is_asked.true)) in
     let e = count-is _ _ _ _ _ _ c.requires.0 c.requires.1 c.args.places c.requires.3 _ _ n in
-    state-found c.args.b c.requires.0 c.args.a c.args.ready c.requires.1 c.requires.2 u.plans u.asked u.starts u.x u.g u.planned u.k u.invariant (not-true _ c.loop-x-test.true) c.if-k-a.false n.here c.answered-g.result ((let it : Told c.args.b c.args.a c.args.ready (c.loop-x.k % 16) c.loop-x.x.instant (requirement_at c.args.a (c.loop-x.k / 16)) c.loop-x.g c.answered-g.result = let n = (let it : Next c.args.b c.args.a c.args.ready (c.loop-x.k % 16) c.loop-x.x.instant (requirement_at c.args.a (c.loop-x.k / 16)) (get_or c.loop-x.plans (c.loop-x.k % 16) no_plan) c.loop-x.g = let b = c.args.b in
-    let u = c.loop-x in
-    let all : u.planned ≡ b.len = omega (arith, u.invariant.most, c.if-planned-b.false) in
-    next-asked b c.requires.0 c.args.a c.args.ready c.requires.1 c.requires.2 u.plans u.asked u.starts u.x u.g u.planned u.k u.invariant (not-true _ c.loop-x-test.true) c.if-k-a.false all (sym c.is_asked.ensures ∙ c.if-is_asked.true) in it) in
+    state-found c.args.b c.requires.0 c.args.a c.args.ready c.requires.1 c.requires.2 u.plans u.asked u.starts u.x u.g u.planned u.k u.invariant (not-true _ c.loop-x-test.true) c.if-k-a.false n.here c.answered-g.result (told-ended c) (omega (arith, c.if-g-p.true))
+
+-- the reply of the resource that was asked last
+told-on : (c : goal.Else-g-p) → Told c.args.b c.args.a c.args.ready (c.loop-x.k % 16) c.loop-x.x.instant (requirement_at c.args.a (c.loop-x.k / 16)) c.loop-x.g c.answered-g.result
+unfolding start_of
+told-on c =
+    let n = (let all : c.loop-x.planned ≡ c.args.b.len = omega (arith, c.loop-x.invariant.most, c.if-planned-b.false) in next-asked c.args.b c.requires.0 c.args.a c.args.ready c.requires.1 c.requires.2 c.loop-x.plans c.loop-x.asked c.loop-x.starts c.loop-x.x c.loop-x.g c.loop-x.planned c.loop-x.k c.loop-x.invariant (not-true _ c.loop-x-test.true) c.if-k-a.false all (sym c.is_asked.ensures ∙ c.if-is_asked.true)) in
     let e = c.member_of-m.ensures in
     rw c.answered-g.ensures
-    (elim c.if-place-lt16.branch [ then-place-lt16 y ↦ told-asked _ _ _ _ _ _ c.requires.0 c.requires.1 c.args.places c.requires.3 _ _ n _ e y.if-place-lt16.true _ (ap start_of y.s-is ∙ y.start_on-s.ensures) | else-place-lt16 y ↦ rw y.s-is (told-nowhere _ _ _ _ _ _ c.requires.0 c.requires.1 c.args.places c.requires.3 _ _ n _ e y.if-place-lt16.false) ]) in it)) (omega (arith, c.if-g-p.true))
+    (elim c.if-place-lt16.branch [ then-place-lt16 y ↦ told-asked _ _ _ _ _ _ c.requires.0 c.requires.1 c.args.places c.requires.3 _ _ n _ e y.if-place-lt16.true _ (ap start_of y.s-is ∙ y.start_on-s.ensures) | else-place-lt16 y ↦ rw y.s-is (told-nowhere _ _ _ _ _ _ c.requires.0 c.requires.1 c.args.places c.requires.3 _ _ n _ e y.if-place-lt16.false) ])
 
 pub loop-x-smaller-else-g-p : goal.loop-x-smaller-else-g-p
 unfolding start_of
 loop-x-smaller-else-g-p c =
     let u = c.loop-x in
-    let n = (let it : Next c.args.b c.args.a c.args.ready (c.loop-x.k % 16) c.loop-x.x.instant (requirement_at c.args.a (c.loop-x.k / 16)) (get_or c.loop-x.plans (c.loop-x.k % 16) no_plan) c.loop-x.g = let b = c.args.b in
-    let u = c.loop-x in
-    let all : u.planned ≡ b.len = omega (arith, u.invariant.most, c.if-planned-b.false) in
-    next-asked b c.requires.0 c.args.a c.args.ready c.requires.1 c.requires.2 u.plans u.asked u.starts u.x u.g u.planned u.k u.invariant (not-true _ c.loop-x-test.true) c.if-k-a.false all (sym c.is_asked.ensures ∙ c.if-is_asked.true) in it) in
-    left-asked c.args.b c.requires.0 c.args.a c.args.ready c.requires.1 c.requires.2 u.plans u.asked u.starts u.x u.g u.planned u.k u.invariant (not-true _ c.loop-x-test.true) c.if-k-a.false n.here c.answered-g.result ((let it : Told c.args.b c.args.a c.args.ready (c.loop-x.k % 16) c.loop-x.x.instant (requirement_at c.args.a (c.loop-x.k / 16)) c.loop-x.g c.answered-g.result = let n = (let it : Next c.args.b c.args.a c.args.ready (c.loop-x.k % 16) c.loop-x.x.instant (requirement_at c.args.a (c.loop-x.k / 16)) (get_or c.loop-x.plans (c.loop-x.k % 16) no_plan) c.loop-x.g = let b = c.args.b in
-    let u = c.loop-x in
-    let all : u.planned ≡ b.len = omega (arith, u.invariant.most, c.if-planned-b.false) in
-    next-asked b c.requires.0 c.args.a c.args.ready c.requires.1 c.requires.2 u.plans u.asked u.starts u.x u.g u.planned u.k u.invariant (not-true _ c.loop-x-test.true) c.if-k-a.false all (sym c.is_asked.ensures ∙ c.if-is_asked.true) in it) in
-    let e = c.member_of-m.ensures in
-    rw c.answered-g.ensures
-    (elim c.if-place-lt16.branch [ then-place-lt16 y ↦ told-asked _ _ _ _ _ _ c.requires.0 c.requires.1 c.args.places c.requires.3 _ _ n _ e y.if-place-lt16.true _ (ap start_of y.s-is ∙ y.start_on-s.ensures) | else-place-lt16 y ↦ rw y.s-is (told-nowhere _ _ _ _ _ _ c.requires.0 c.requires.1 c.args.places c.requires.3 _ _ n _ e y.if-place-lt16.false) ]) in it))
+    let n = (let all : c.loop-x.planned ≡ c.args.b.len = omega (arith, c.loop-x.invariant.most, c.if-planned-b.false) in next-asked c.args.b c.requires.0 c.args.a c.args.ready c.requires.1 c.requires.2 c.loop-x.plans c.loop-x.asked c.loop-x.starts c.loop-x.x c.loop-x.g c.loop-x.planned c.loop-x.k c.loop-x.invariant (not-true _ c.loop-x-test.true) c.if-k-a.false all (sym c.is_asked.ensures ∙ c.if-is_asked.true)) in
+    left-asked c.args.b c.requires.0 c.args.a c.args.ready c.requires.1 c.requires.2 u.plans u.asked u.starts u.x u.g u.planned u.k u.invariant (not-true _ c.loop-x-test.true) c.if-k-a.false n.here c.answered-g.result (told-on c)
 
 pub loop-x-preserved-else-g-p : goal.loop-x-preserved-else-g-p
 unfolding start_of
 loop-x-preserved-else-g-p c =
     let u = c.loop-x in
-    let n = (let it : Next c.args.b c.args.a c.args.ready (c.loop-x.k % 16) c.loop-x.x.instant (requirement_at c.args.a (c.loop-x.k / 16)) (get_or c.loop-x.plans (c.loop-x.k % 16) no_plan) c.loop-x.g = let b = c.args.b in
-    let u = c.loop-x in
-    let all : u.planned ≡ b.len = omega (arith, u.invariant.most, c.if-planned-b.false) in
-    next-asked b c.requires.0 c.args.a c.args.ready c.requires.1 c.requires.2 u.plans u.asked u.starts u.x u.g u.planned u.k u.invariant (not-true _ c.loop-x-test.true) c.if-k-a.false all (sym c.is_asked.ensures ∙ c.if-is_asked.true) in it) in
+    let n = (let all : c.loop-x.planned ≡ c.args.b.len = omega (arith, c.loop-x.invariant.most, c.if-planned-b.false) in next-asked c.args.b c.requires.0 c.args.a c.args.ready c.requires.1 c.requires.2 c.loop-x.plans c.loop-x.asked c.loop-x.starts c.loop-x.x c.loop-x.g c.loop-x.planned c.loop-x.k c.loop-x.invariant (not-true _ c.loop-x-test.true) c.if-k-a.false all (sym c.is_asked.ensures ∙ c.if-is_asked.true)) in
     let e = count-is _ _ _ _ _ _ c.requires.0 c.requires.1 c.args.places c.requires.3 _ _ n in
-    state-on c.args.b c.requires.0 c.args.a c.args.ready c.requires.1 c.requires.2 u.plans u.asked u.starts u.x u.g u.planned u.k u.invariant (not-true _ c.loop-x-test.true) c.if-k-a.false n.here c.answered-g.result ((let it : Told c.args.b c.args.a c.args.ready (c.loop-x.k % 16) c.loop-x.x.instant (requirement_at c.args.a (c.loop-x.k / 16)) c.loop-x.g c.answered-g.result = let n = (let it : Next c.args.b c.args.a c.args.ready (c.loop-x.k % 16) c.loop-x.x.instant (requirement_at c.args.a (c.loop-x.k / 16)) (get_or c.loop-x.plans (c.loop-x.k % 16) no_plan) c.loop-x.g = let b = c.args.b in
-    let u = c.loop-x in
-    let all : u.planned ≡ b.len = omega (arith, u.invariant.most, c.if-planned-b.false) in
-    next-asked b c.requires.0 c.args.a c.args.ready c.requires.1 c.requires.2 u.plans u.asked u.starts u.x u.g u.planned u.k u.invariant (not-true _ c.loop-x-test.true) c.if-k-a.false all (sym c.is_asked.ensures ∙ c.if-is_asked.true) in it) in
-    let e = c.member_of-m.ensures in
-    rw c.answered-g.ensures
-    (elim c.if-place-lt16.branch [ then-place-lt16 y ↦ told-asked _ _ _ _ _ _ c.requires.0 c.requires.1 c.args.places c.requires.3 _ _ n _ e y.if-place-lt16.true _ (ap start_of y.s-is ∙ y.start_on-s.ensures) | else-place-lt16 y ↦ rw y.s-is (told-nowhere _ _ _ _ _ _ c.requires.0 c.requires.1 c.args.places c.requires.3 _ _ n _ e y.if-place-lt16.false) ]) in it)) (omega (arith, c.if-g-p.false))
+    state-on c.args.b c.requires.0 c.args.a c.args.ready c.requires.1 c.requires.2 u.plans u.asked u.starts u.x u.g u.planned u.k u.invariant (not-true _ c.loop-x-test.true) c.if-k-a.false n.here c.answered-g.result (told-on c) (omega (arith, c.if-g-p.false))
 
 pub overflow_add-k : goal.overflow_add-k
 overflow_add-k c = record { fits = omega (arith, c.loop-x.invariant.four, c.if-k-a.false) }

@@ -47,19 +47,22 @@ loop-i-init c =
     (asks, refl, asked-start _ _ _ _ q.4)
 
 pub bounds-places-x : goal.bounds-places-x
-bounds-places-x c = ((let it : Small c.args.e.entries c.args.places c.loop-i.i = let a = c.args in
-    let k = c.loop-i in
-    entry-small a.b a.e.entries a.e.count c.own_timeline-first.result a.places k.invariant.0 k.i c.if-i-gt0.true c.loop-i-test.true in it)).0
+bounds-places-x c = (entry-small c.args.b c.args.e.entries c.args.e.count c.own_timeline-first.result c.args.places c.loop-i.invariant.0 c.loop-i.i c.if-i-gt0.true c.loop-i-test.true).0
 
 pub offset_bounds-b-places : goal.offset_bounds-b-places
-offset_bounds-b-places c = let s = ((let it : Small c.args.e.entries c.args.places c.loop-i.i = let a = c.args in
-    let k = c.loop-i in
-    entry-small a.b a.e.entries a.e.count c.own_timeline-first.result a.places k.invariant.0 k.i c.if-i-gt0.true c.loop-i-test.true in it)).1 in search rules
+offset_bounds-b-places c = let s = (entry-small c.args.b c.args.e.entries c.args.e.count c.own_timeline-first.result c.args.places c.loop-i.invariant.0 c.loop-i.i c.if-i-gt0.true c.loop-i-test.true).1 in search rules
 
 pub bounds-b-places : goal.bounds-b-places
-bounds-b-places c = ((let it : Small c.args.e.entries c.args.places c.loop-i.i = let a = c.args in
+bounds-b-places c = (entry-small c.args.b c.args.e.entries c.args.e.count c.own_timeline-first.result c.args.places c.loop-i.invariant.0 c.loop-i.i c.if-i-gt0.true c.loop-i-test.true).1
+
+-- the diary and the units that are asked are those of the list
+joined : (c : goal.Joined-i-gt0) → record { timeline = c.if-i-gt0.d; units = c.if-i-gt0.units } ≡ get_or (those c.args.b c.args.e.entries c.args.e.count c.own_timeline-first.result) c.loop-i.i no_share
+joined c =
+    let a = c.args in
     let k = c.loop-i in
-    entry-small a.b a.e.entries a.e.count c.own_timeline-first.result a.places k.invariant.0 k.i c.if-i-gt0.true c.loop-i-test.true in it)).1
+    let l = c.loop-i-test.true in
+    let first = c.own_timeline-first.result in
+    elim c.if-i-gt0.branch [ then-i-gt0 w ↦ rw (w.d-is, w.units-is) (read-share a.b a.e.entries a.e.count first a.places k.invariant.0 k.i w.if-i-gt0.true l) | else-i-gt0 w ↦ rw (w.d-is, w.units-is) (own-share a.b a.e.entries a.e.count first a.places k.invariant.0 k.i w.if-i-gt0.false) ]
 
 pub earliest_fit-s-requires : goal.earliest_fit-s-requires
 earliest_fit-s-requires c =
@@ -67,11 +70,7 @@ earliest_fit-s-requires c =
     let k = c.loop-i in
     let l = c.loop-i-test.true in
     let first = c.own_timeline-first.result in
-    let j = (let it : record { timeline = c.if-i-gt0.d; units = c.if-i-gt0.units } ≡ get_or (those c.args.b c.args.e.entries c.args.e.count c.own_timeline-first.result) c.loop-i.i no_share = let a = c.args in
-    let k = c.loop-i in
-    let l = c.loop-i-test.true in
-    let first = c.own_timeline-first.result in
-    elim c.if-i-gt0.branch [ then-i-gt0 w ↦ rw (w.d-is, w.units-is) (read-share a.b a.e.entries a.e.count first a.places k.invariant.0 k.i w.if-i-gt0.true l) | else-i-gt0 w ↦ rw (w.d-is, w.units-is) (own-share a.b a.e.entries a.e.count first a.places k.invariant.0 k.i w.if-i-gt0.false) ] in it) in
+    let j = joined c in
     record { t_value = (subst (λ (x : Share). timeline.valid x.timeline ≡ true) (sym j) (asks-kept a.b a.e.entries a.e.count first a.places k.invariant.0 k.i l), k.invariant.2.range, c.requires.5); le_units = subst (λ (x : Share). 1 ≤ x.units) (sym j) (asks-some a.b a.e.entries a.e.count first a.places k.invariant.0 k.i l) }
 
 pub loop-i-smaller : goal.loop-i-smaller
@@ -81,11 +80,7 @@ loop-i-smaller c =
     let k = c.loop-i in
     let l = c.loop-i-test.true in
     let first = c.own_timeline-first.result in
-    let j = (let it : record { timeline = c.if-i-gt0.d; units = c.if-i-gt0.units } ≡ get_or (those c.args.b c.args.e.entries c.args.e.count c.own_timeline-first.result) c.loop-i.i no_share = let a = c.args in
-    let k = c.loop-i in
-    let l = c.loop-i-test.true in
-    let first = c.own_timeline-first.result in
-    elim c.if-i-gt0.branch [ then-i-gt0 w ↦ rw (w.d-is, w.units-is) (read-share a.b a.e.entries a.e.count first a.places k.invariant.0 k.i w.if-i-gt0.true l) | else-i-gt0 w ↦ rw (w.d-is, w.units-is) (own-share a.b a.e.entries a.e.count first a.places k.invariant.0 k.i w.if-i-gt0.false) ] in it) in
+    let j = joined c.before.before.before in
     let s = c.in-At in
     let xs = those a.b a.e.entries a.e.count first in
     let m : k.i < length xs = omega (arith, l, asks-long a.b a.e.entries a.e.count first a.places k.invariant.0) in
@@ -101,11 +96,7 @@ loop-i-preserved c =
     let k = c.loop-i in
     let l = c.loop-i-test.true in
     let first = c.own_timeline-first.result in
-    let j = (let it : record { timeline = c.if-i-gt0.d; units = c.if-i-gt0.units } ≡ get_or (those c.args.b c.args.e.entries c.args.e.count c.own_timeline-first.result) c.loop-i.i no_share = let a = c.args in
-    let k = c.loop-i in
-    let l = c.loop-i-test.true in
-    let first = c.own_timeline-first.result in
-    elim c.if-i-gt0.branch [ then-i-gt0 w ↦ rw (w.d-is, w.units-is) (read-share a.b a.e.entries a.e.count first a.places k.invariant.0 k.i w.if-i-gt0.true l) | else-i-gt0 w ↦ rw (w.d-is, w.units-is) (own-share a.b a.e.entries a.e.count first a.places k.invariant.0 k.i w.if-i-gt0.false) ] in it) in
+    let j = joined c.before.before.before in
     let s = c.in-At in
     let xs = those a.b a.e.entries a.e.count first in
     let m : k.i < length xs = omega (arith, l, asks-long a.b a.e.entries a.e.count first a.places k.invariant.0) in
@@ -120,11 +111,7 @@ returns-in-Nothing c =
     let k = c.loop-i in
     let l = c.loop-i-test.true in
     let first = c.own_timeline-first.result in
-    let j = (let it : record { timeline = c.if-i-gt0.d; units = c.if-i-gt0.units } ≡ get_or (those c.args.b c.args.e.entries c.args.e.count c.own_timeline-first.result) c.loop-i.i no_share = let a = c.args in
-    let k = c.loop-i in
-    let l = c.loop-i-test.true in
-    let first = c.own_timeline-first.result in
-    elim c.if-i-gt0.branch [ then-i-gt0 w ↦ rw (w.d-is, w.units-is) (read-share a.b a.e.entries a.e.count first a.places k.invariant.0 k.i w.if-i-gt0.true l) | else-i-gt0 w ↦ rw (w.d-is, w.units-is) (own-share a.b a.e.entries a.e.count first a.places k.invariant.0 k.i w.if-i-gt0.false) ] in it) in
+    let j = joined c.before.before in
     let xs = those a.b a.e.entries a.e.count first in
     let m : k.i < length xs = omega (arith, l, asks-long a.b a.e.entries a.e.count first a.places k.invariant.0) in
     let e = start-read _ _ k.t a.span _ j _ (sym c.earliest_fit-s.ensures ∙ ap start_of c.in-Nothing.is) in

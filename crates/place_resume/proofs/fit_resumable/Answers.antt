@@ -1,7 +1,7 @@
 use borrow.Author.Rules.{rules}
 use borrow.Author.Tests.{not-true, not-false}
 use mathlib.Core.Path.{◌≡◌, refl, sym, ap, ◌∙◌, subst}
-use mathlib.Core.Bool.{Bool, true}
+use mathlib.Core.Bool.{Bool, true, false}
 use mathlib.Core.List.{List, ◌∷◌}
 use mathlib.Core.Logic.{inl, inr, ⊎_elim}
 use Prim.Native.Nat.{ℕ, ◌+◌, ◌≤◌, ◌<◌}
@@ -45,19 +45,13 @@ loop-t-init c =
     (asks, state-start _ _ _ _ _ _ _ _ _ _ _ _ _ refl refl u.0 u.1 u.2 u.3 (omega (arith, q.4)))
 
 pub bounds-places-x : goal.bounds-places-x
-bounds-places-x c = ((let it : Small c.args.e.entries c.args.places c.loop-t.i = let a = c.args in
-    let k = c.loop-t in
-    entry-small a.b a.e.entries a.e.count c.own_timeline-first.result a.places k.invariant.0 k.i c.if-i-gt0.true c.if-i-n.true in it)).0
+bounds-places-x c = (entry-small c.args.b c.args.e.entries c.args.e.count c.own_timeline-first.result c.args.places c.loop-t.invariant.0 c.loop-t.i c.if-i-gt0.true c.if-i-n.true).0
 
 pub offset_bounds-b-places : goal.offset_bounds-b-places
-offset_bounds-b-places c = let s = ((let it : Small c.args.e.entries c.args.places c.loop-t.i = let a = c.args in
-    let k = c.loop-t in
-    entry-small a.b a.e.entries a.e.count c.own_timeline-first.result a.places k.invariant.0 k.i c.if-i-gt0.true c.if-i-n.true in it)).1 in search rules
+offset_bounds-b-places c = let s = (entry-small c.args.b c.args.e.entries c.args.e.count c.own_timeline-first.result c.args.places c.loop-t.invariant.0 c.loop-t.i c.if-i-gt0.true c.if-i-n.true).1 in search rules
 
 pub bounds-b-places : goal.bounds-b-places
-bounds-b-places c = ((let it : Small c.args.e.entries c.args.places c.loop-t.i = let a = c.args in
-    let k = c.loop-t in
-    entry-small a.b a.e.entries a.e.count c.own_timeline-first.result a.places k.invariant.0 k.i c.if-i-gt0.true c.if-i-n.true in it)).1
+bounds-b-places c = (entry-small c.args.b c.args.e.entries c.args.e.count c.own_timeline-first.result c.args.places c.loop-t.invariant.0 c.loop-t.i c.if-i-gt0.true c.if-i-n.true).1
 
 pub asked-t-requires : goal.asked-t-requires
 asked-t-requires c =
@@ -74,17 +68,22 @@ asked-t-requires c =
     let t = (k.invariant.1.walks c.if-t.true).tried h in
     (subst (λ (x : Share). valid x.timeline ≡ true) (sym j) (asks-kept a.b a.e.entries a.e.count first a.places k.invariant.0 k.i l), t.later, t.most)
 
+-- the diary and the units that are asked are those of the list
+joined : (c : goal.Joined-t) → record { timeline = c.if-i-gt0.d; units = c.if-i-gt0.units } ≡ get_or (those c.args.b c.args.e.entries c.args.e.count c.own_timeline-first.result) c.loop-t.i no_share
+joined c =
+    let a = c.args in
+    let k = c.loop-t in
+    let first = c.own_timeline-first.result in
+    let l = c.if-i-n.true in
+    elim c.if-i-gt0.branch [ then-i-gt0 w ↦ rw (w.d-is, w.units-is) (read-share a.b a.e.entries a.e.count first a.places k.invariant.0 k.i w.if-i-gt0.true l) | else-i-gt0 w ↦ rw (w.d-is, w.units-is) (own-share a.b a.e.entries a.e.count first a.places k.invariant.0 k.i w.if-i-gt0.false) ]
+
 pub loop-t-smaller-then-i-n : goal.loop-t-smaller-then-i-n
 loop-t-smaller-then-i-n c =
     let a = c.args in
     let k = c.loop-t in
     let first = c.own_timeline-first.result in
     let l = c.if-i-n.true in
-    let j = (let it : record { timeline = c.if-i-gt0.d; units = c.if-i-gt0.units } ≡ get_or (those c.args.b c.args.e.entries c.args.e.count c.own_timeline-first.result) c.loop-t.i no_share = let a = c.args in
-    let k = c.loop-t in
-    let first = c.own_timeline-first.result in
-    let l = c.if-i-n.true in
-    elim c.if-i-gt0.branch [ then-i-gt0 w ↦ rw (w.d-is, w.units-is) (read-share a.b a.e.entries a.e.count first a.places k.invariant.0 k.i w.if-i-gt0.true l) | else-i-gt0 w ↦ rw (w.d-is, w.units-is) (own-share a.b a.e.entries a.e.count first a.places k.invariant.0 k.i w.if-i-gt0.false) ] in it) in
+    let j = joined c in
     let h = c.loop-t-test.true in
     let s = k.invariant.1 in
     elim c.if-t.branch [ then-t w ↦ left-asked (instants a.b a.e.entries a.e.count first) c.if-t.t.at k.t.at c.if-t.t.laid k.t.laid (a.e.count + 1) k.i (ap (λ (x : Trial). x.at) w.t-is ∙ w.asked-t.ensures.at_value.0) (ap (λ (x : Trial). x.laid) w.t-is ∙ w.asked-t.ensures.at_value.2) l | else-t w ↦ left-asked (instants a.b a.e.entries a.e.count first) c.if-t.t.at k.t.at c.if-t.t.laid k.t.laid (a.e.count + 1) k.i (ap (λ (x : Trial). x.at) w.t-is) (ap (λ (x : Trial). x.laid) w.t-is) l ]
@@ -95,11 +94,7 @@ loop-t-preserved-then-i-n c =
     let k = c.loop-t in
     let first = c.own_timeline-first.result in
     let l = c.if-i-n.true in
-    let j = (let it : record { timeline = c.if-i-gt0.d; units = c.if-i-gt0.units } ≡ get_or (those c.args.b c.args.e.entries c.args.e.count c.own_timeline-first.result) c.loop-t.i no_share = let a = c.args in
-    let k = c.loop-t in
-    let first = c.own_timeline-first.result in
-    let l = c.if-i-n.true in
-    elim c.if-i-gt0.branch [ then-i-gt0 w ↦ rw (w.d-is, w.units-is) (read-share a.b a.e.entries a.e.count first a.places k.invariant.0 k.i w.if-i-gt0.true l) | else-i-gt0 w ↦ rw (w.d-is, w.units-is) (own-share a.b a.e.entries a.e.count first a.places k.invariant.0 k.i w.if-i-gt0.false) ] in it) in
+    let j = joined c in
     let h = c.loop-t-test.true in
     let s = k.invariant.1 in (
       k.invariant.0,
@@ -130,8 +125,10 @@ joint_time-j-requires c =
     let l = c.if-i-n.false in
     (omega (arith, q.3.few), omega (arith, q.4), gathers-ruled (those a.b a.e.entries a.e.count first) (a.e.count + 1) a.work a.from (instants a.b a.e.entries a.e.count first) (asks-sound a.b a.e.entries a.e.count first a.places k.invariant.0) (asks-long a.b a.e.entries a.e.count first a.places k.invariant.0) k.cs k.t.at k.t.free k.t.next k.i (k.invariant.1.gathers (not-true _ c.if-not-t.true)) l)
 
-pub slice_bounds-begun-end : goal.slice_bounds-begun-end
-slice_bounds-begun-end c = sym ((let it : Onward (those c.args.b c.args.e.entries c.args.e.count c.own_timeline-first.result) (c.args.e.count + 1) c.args.work c.args.from (instants c.args.b c.args.e.entries c.args.e.count c.own_timeline-first.result) c.if-not-t.edges c.if-not-t.len c.loop-t.t.next × ((x : ℕ) (q : Bool) → x ≡ c.loop-t.t.next → q ≡ true → left (instants c.args.b c.args.e.entries c.args.e.count c.own_timeline-first.result) x q (c.args.e.count + 1) 0 < left (instants c.args.b c.args.e.entries c.args.e.count c.own_timeline-first.result) c.loop-t.t.at c.loop-t.t.laid (c.args.e.count + 1) c.loop-t.i) = let a = c.args in
+-- what is laid out and sought goes on from the next instant, and fewer instants are left
+laid_out : (c : goal.After-edges-in-loop-t-1) → Onward (those c.args.b c.args.e.entries c.args.e.count c.own_timeline-first.result) (c.args.e.count + 1) c.args.work c.args.from (instants c.args.b c.args.e.entries c.args.e.count c.own_timeline-first.result) c.if-not-t.edges c.if-not-t.len c.loop-t.t.next × ((x : ℕ) (q : Bool) → x ≡ c.loop-t.t.next → q ≡ true → left (instants c.args.b c.args.e.entries c.args.e.count c.own_timeline-first.result) x q (c.args.e.count + 1) 0 < left (instants c.args.b c.args.e.entries c.args.e.count c.own_timeline-first.result) c.loop-t.t.at c.loop-t.t.laid (c.args.e.count + 1) c.loop-t.i)
+laid_out c =
+    let a = c.args in
     let k = c.loop-t in
     let first = c.own_timeline-first.result in
     let q = c.requires in
@@ -141,67 +138,30 @@ slice_bounds-begun-end c = sym ((let it : Onward (those c.args.b c.args.e.entrie
     let s = k.invariant.1 in
     let few : a.e.count + 1 ≤ 25 = omega (arith, q.3.few) in
     elim c.if-not-t.branch [
-      | then-not-t w ↦ (let e = not-true _ w.if-not-t.true in
+      | then-not-t w ↦ (let e : k.t.laid ≡ false = not-true _ w.if-not-t.true in
           let long : length w.joint_time-j.result.edges ≡ 3201 = search rules in (
             rw (w.edges-is, w.len-is) (onward-laid (those a.b a.e.entries a.e.count first) (a.e.count + 1) a.work a.from (instants a.b a.e.entries a.e.count first) (asks-sound a.b a.e.entries a.e.count first a.places k.invariant.0) (asks-long a.b a.e.entries a.e.count first a.places k.invariant.0) k.cs k.edges k.len k.t.at k.t.end k.t.free k.t.next k.t.laid k.i s l e q.4 few w.joint_time-j.result.edges w.joint_time-j.result.len long w.joint_time-j.ensures.0 w.joint_time-j.ensures.1),
             λ x p g z. left_laid (instants a.b a.e.entries a.e.count first) x k.t.at p k.t.laid (a.e.count + 1) k.i (g ∙ (s.gathers e).begin ∙ sym (s.gathers e).start) z e few,
           ))
-      | else-not-t w ↦ (let e = not-false _ w.if-not-t.false in
+      | else-not-t w ↦ (let e : k.t.laid ≡ true = not-false _ w.if-not-t.false in
           let t = (s.walks e).tried h in (
             rw (w.edges-is, w.len-is) (onward-next (those a.b a.e.entries a.e.count first) (a.e.count + 1) a.work a.from (instants a.b a.e.entries a.e.count first) (asks-sound a.b a.e.entries a.e.count first a.places k.invariant.0) (asks-long a.b a.e.entries a.e.count first a.places k.invariant.0) k.cs k.edges k.len k.t.at k.t.end k.t.free k.t.next k.t.laid k.i s l e h f),
             λ x p g z. left-on (instants a.b a.e.entries a.e.count first) x k.t.at p k.t.laid (a.e.count + 1) k.i (omega (arith, g, t.later)) (omega (arith, g, t.most)) (rw g t.listed) z e few,
           ))
-    ] in it)).0.wide
+    ]
+
+pub slice_bounds-begun-end : goal.slice_bounds-begun-end
+slice_bounds-begun-end c = sym (laid_out c).0.wide
 
 pub begun-t-requires : goal.begun-t-requires
 begun-t-requires c =
-    let o = ((let it : Onward (those c.args.b c.args.e.entries c.args.e.count c.own_timeline-first.result) (c.args.e.count + 1) c.args.work c.args.from (instants c.args.b c.args.e.entries c.args.e.count c.own_timeline-first.result) c.if-not-t.edges c.if-not-t.len c.loop-t.t.next × ((x : ℕ) (q : Bool) → x ≡ c.loop-t.t.next → q ≡ true → left (instants c.args.b c.args.e.entries c.args.e.count c.own_timeline-first.result) x q (c.args.e.count + 1) 0 < left (instants c.args.b c.args.e.entries c.args.e.count c.own_timeline-first.result) c.loop-t.t.at c.loop-t.t.laid (c.args.e.count + 1) c.loop-t.i) = let a = c.args in
-    let k = c.loop-t in
-    let first = c.own_timeline-first.result in
-    let q = c.requires in
-    let l = c.if-i-n.false in
-    let h = c.loop-t-test.true in
-    let f = c.if-t-2.false in
-    let s = k.invariant.1 in
-    let few : a.e.count + 1 ≤ 25 = omega (arith, q.3.few) in
-    elim c.if-not-t.branch [
-      | then-not-t w ↦ (let e = not-true _ w.if-not-t.true in
-          let long : length w.joint_time-j.result.edges ≡ 3201 = search rules in (
-            rw (w.edges-is, w.len-is) (onward-laid (those a.b a.e.entries a.e.count first) (a.e.count + 1) a.work a.from (instants a.b a.e.entries a.e.count first) (asks-sound a.b a.e.entries a.e.count first a.places k.invariant.0) (asks-long a.b a.e.entries a.e.count first a.places k.invariant.0) k.cs k.edges k.len k.t.at k.t.end k.t.free k.t.next k.t.laid k.i s l e q.4 few w.joint_time-j.result.edges w.joint_time-j.result.len long w.joint_time-j.ensures.0 w.joint_time-j.ensures.1),
-            λ x p g z. left_laid (instants a.b a.e.entries a.e.count first) x k.t.at p k.t.laid (a.e.count + 1) k.i (g ∙ (s.gathers e).begin ∙ sym (s.gathers e).start) z e few,
-          ))
-      | else-not-t w ↦ (let e = not-false _ w.if-not-t.false in
-          let t = (s.walks e).tried h in (
-            rw (w.edges-is, w.len-is) (onward-next (those a.b a.e.entries a.e.count first) (a.e.count + 1) a.work a.from (instants a.b a.e.entries a.e.count first) (asks-sound a.b a.e.entries a.e.count first a.places k.invariant.0) (asks-long a.b a.e.entries a.e.count first a.places k.invariant.0) k.cs k.edges k.len k.t.at k.t.end k.t.free k.t.next k.t.laid k.i s l e h f),
-            λ x p g z. left-on (instants a.b a.e.entries a.e.count first) x k.t.at p k.t.laid (a.e.count + 1) k.i (omega (arith, g, t.later)) (omega (arith, g, t.most)) (rw g t.listed) z e few,
-          ))
-    ] in it)).0 in
+    let o = (laid_out c).0 in
     (o.short, omega (arith, o.short, o.wide), c.requires.5, o.layout.edges)
 
 pub loop-t-smaller : goal.loop-t-smaller
 loop-t-smaller c =
     let u = c.begun-t.ensures in
-    ((let it : Onward (those c.args.b c.args.e.entries c.args.e.count c.own_timeline-first.result) (c.args.e.count + 1) c.args.work c.args.from (instants c.args.b c.args.e.entries c.args.e.count c.own_timeline-first.result) c.if-not-t.edges c.if-not-t.len c.loop-t.t.next × ((x : ℕ) (q : Bool) → x ≡ c.loop-t.t.next → q ≡ true → left (instants c.args.b c.args.e.entries c.args.e.count c.own_timeline-first.result) x q (c.args.e.count + 1) 0 < left (instants c.args.b c.args.e.entries c.args.e.count c.own_timeline-first.result) c.loop-t.t.at c.loop-t.t.laid (c.args.e.count + 1) c.loop-t.i) = let a = c.args in
-    let k = c.loop-t in
-    let first = c.own_timeline-first.result in
-    let q = c.requires in
-    let l = c.if-i-n.false in
-    let h = c.loop-t-test.true in
-    let f = c.if-t-2.false in
-    let s = k.invariant.1 in
-    let few : a.e.count + 1 ≤ 25 = omega (arith, q.3.few) in
-    elim c.if-not-t.branch [
-      | then-not-t w ↦ (let e = not-true _ w.if-not-t.true in
-          let long : length w.joint_time-j.result.edges ≡ 3201 = search rules in (
-            rw (w.edges-is, w.len-is) (onward-laid (those a.b a.e.entries a.e.count first) (a.e.count + 1) a.work a.from (instants a.b a.e.entries a.e.count first) (asks-sound a.b a.e.entries a.e.count first a.places k.invariant.0) (asks-long a.b a.e.entries a.e.count first a.places k.invariant.0) k.cs k.edges k.len k.t.at k.t.end k.t.free k.t.next k.t.laid k.i s l e q.4 few w.joint_time-j.result.edges w.joint_time-j.result.len long w.joint_time-j.ensures.0 w.joint_time-j.ensures.1),
-            λ x p g z. left_laid (instants a.b a.e.entries a.e.count first) x k.t.at p k.t.laid (a.e.count + 1) k.i (g ∙ (s.gathers e).begin ∙ sym (s.gathers e).start) z e few,
-          ))
-      | else-not-t w ↦ (let e = not-false _ w.if-not-t.false in
-          let t = (s.walks e).tried h in (
-            rw (w.edges-is, w.len-is) (onward-next (those a.b a.e.entries a.e.count first) (a.e.count + 1) a.work a.from (instants a.b a.e.entries a.e.count first) (asks-sound a.b a.e.entries a.e.count first a.places k.invariant.0) (asks-long a.b a.e.entries a.e.count first a.places k.invariant.0) k.cs k.edges k.len k.t.at k.t.end k.t.free k.t.next k.t.laid k.i s l e h f),
-            λ x p g z. left-on (instants a.b a.e.entries a.e.count first) x k.t.at p k.t.laid (a.e.count + 1) k.i (omega (arith, g, t.later)) (omega (arith, g, t.most)) (rw g t.listed) z e few,
-          ))
-    ] in it)).1 _ _ u.0 u.2
+    (laid_out c.before).1 _ _ u.0 u.2
 
 pub loop-t-preserved : goal.loop-t-preserved
 loop-t-preserved c =
@@ -211,27 +171,7 @@ loop-t-preserved c =
     let u = c.begun-t.ensures in
     let r = c.begun-t.result in (
       k.invariant.0,
-      state-begun (those a.b a.e.entries a.e.count first) (a.e.count + 1) a.work a.from (instants a.b a.e.entries a.e.count first) (asks-sound a.b a.e.entries a.e.count first a.places k.invariant.0) (asks-long a.b a.e.entries a.e.count first a.places k.invariant.0) k.cs c.if-not-t.edges c.if-not-t.len k.t.next k.invariant.1.cells ((let it : Onward (those c.args.b c.args.e.entries c.args.e.count c.own_timeline-first.result) (c.args.e.count + 1) c.args.work c.args.from (instants c.args.b c.args.e.entries c.args.e.count c.own_timeline-first.result) c.if-not-t.edges c.if-not-t.len c.loop-t.t.next × ((x : ℕ) (q : Bool) → x ≡ c.loop-t.t.next → q ≡ true → left (instants c.args.b c.args.e.entries c.args.e.count c.own_timeline-first.result) x q (c.args.e.count + 1) 0 < left (instants c.args.b c.args.e.entries c.args.e.count c.own_timeline-first.result) c.loop-t.t.at c.loop-t.t.laid (c.args.e.count + 1) c.loop-t.i) = let a = c.args in
-          let k = c.loop-t in
-          let first = c.own_timeline-first.result in
-          let q = c.requires in
-          let l = c.if-i-n.false in
-          let h = c.loop-t-test.true in
-          let f = c.if-t-2.false in
-          let s = k.invariant.1 in
-          let few : a.e.count + 1 ≤ 25 = omega (arith, q.3.few) in
-          elim c.if-not-t.branch [
-            | then-not-t w ↦ (let e = not-true _ w.if-not-t.true in
-                let long : length w.joint_time-j.result.edges ≡ 3201 = search rules in (
-                  rw (w.edges-is, w.len-is) (onward-laid (those a.b a.e.entries a.e.count first) (a.e.count + 1) a.work a.from (instants a.b a.e.entries a.e.count first) (asks-sound a.b a.e.entries a.e.count first a.places k.invariant.0) (asks-long a.b a.e.entries a.e.count first a.places k.invariant.0) k.cs k.edges k.len k.t.at k.t.end k.t.free k.t.next k.t.laid k.i s l e q.4 few w.joint_time-j.result.edges w.joint_time-j.result.len long w.joint_time-j.ensures.0 w.joint_time-j.ensures.1),
-                  λ x p g z. left_laid (instants a.b a.e.entries a.e.count first) x k.t.at p k.t.laid (a.e.count + 1) k.i (g ∙ (s.gathers e).begin ∙ sym (s.gathers e).start) z e few,
-                ))
-            | else-not-t w ↦ (let e = not-false _ w.if-not-t.false in
-                let t = (s.walks e).tried h in (
-                  rw (w.edges-is, w.len-is) (onward-next (those a.b a.e.entries a.e.count first) (a.e.count + 1) a.work a.from (instants a.b a.e.entries a.e.count first) (asks-sound a.b a.e.entries a.e.count first a.places k.invariant.0) (asks-long a.b a.e.entries a.e.count first a.places k.invariant.0) k.cs k.edges k.len k.t.at k.t.end k.t.free k.t.next k.t.laid k.i s l e h f),
-                  λ x p g z. left-on (instants a.b a.e.entries a.e.count first) x k.t.at p k.t.laid (a.e.count + 1) k.i (omega (arith, g, t.later)) (omega (arith, g, t.most)) (rw g t.listed) z e few,
-                ))
-          ] in it)).0 r.at r.end r.free r.next r.laid u.0 u.1 u.2 u.3,
+      state-begun (those a.b a.e.entries a.e.count first) (a.e.count + 1) a.work a.from (instants a.b a.e.entries a.e.count first) (asks-sound a.b a.e.entries a.e.count first a.places k.invariant.0) (asks-long a.b a.e.entries a.e.count first a.places k.invariant.0) k.cs c.if-not-t.edges c.if-not-t.len k.t.next k.invariant.1.cells (laid_out c.before).0 r.at r.end r.free r.next r.laid u.0 u.1 u.2 u.3,
     )
 
 pub returns : goal.returns
