@@ -2,7 +2,7 @@
 -- number of the first bad record.
 use Rattle.std.specs.Prelude.{ℕ, Bool, true, false, List, [], ◌∷◌, eqb}
 use Rattle.calendar.specs.declared.Calendar.{Calendar}
-use Rattle.calendar.specs.declared.Added.{Added}
+use Rattle.calendar.specs.Replies.{Added}
 use Rattle.calendar.specs.Valid.{valid}
 use Rattle.calendar.specs.Add.{add_window, add_block}
 use Rattle.timeline.specs.declared.ResourceTimeline.{ResourceTimeline}
