@@ -23,8 +23,7 @@ use Rattle.board.specs.Theorems.Meaning.{transport-is}
 use Rattle.record_desk.specs.declared.Desk.{Desk}
 use Rattle.record_board.specs.declared.DeskStepped.{DeskStepped}
 use Rattle.record_queries.specs.declared.QueryTurn.{QueryTurn}
-use Rattle.board_numbers.specs.declared.PlaceFor.{PlaceFor}
-use Rattle.board_numbers.specs.Entry.{entry_at, entry_for}
+use Rattle.board_numbers.specs.Entry.{PlaceFor, entry_at, entry_for}
 use Rattle.board_numbers.proofs.Standing.{on-small}
 use Rattle.calendar.specs.Refusals.{refused_or}
 use Rattle.calendar.specs.Laws.Refusals.{refused-by}
