@@ -96,10 +96,6 @@ module _ (k : Commitment) where
   refusal-rules v = rw v refl
 
   module _ (v : board.valid k.board ≡ true) where
-    pub refusal-none : k.count ≡ 0 → 0 ≡ commitment_refusal k
-    unfolding commit_refusal
-    refusal-none z = rw (v, z) refl
-
     module _ (some : eqb k.count 0 ≡ false) where
       pub refusal-count : length k.slate < k.count → 7 ≡ commitment_refusal k
       unfolding commit_refusal
