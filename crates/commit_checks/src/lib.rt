@@ -4,7 +4,6 @@
 ghost use Rattle.std.specs.Prelude.{◌≡◌, true, [], ℕ, ◌<◌, length, get_or};
 ghost use Rattle.cells.specs.Every.{every};
 ghost use Rattle.calendar.specs.Replies.{refused};
-ghost use Rattle.board.specs.Places.{FewBookings};
 ghost use Rattle.scheduler.specs.Rows.{number_in};
 ghost use Rattle.scheduler.specs.Committing.{lines_of};
 ghost use Rattle.commit_checks.specs.Lines.{numbered, metered, roomy, Counted, RowsRefusal};
@@ -57,8 +56,7 @@ fn tally_of(rows: &[Row]) -> [u64; 16]
 
 // Each diary named has places for all its entries.
 fn room_right(rows: &[Row], p: &Places, tally: &[u64; 16]) -> bool
-    requires numbers { every (numbered p.now.places) rows.now ≡ true }
-    requires few_bookings { FewBookings p.now.lens }
+    requires { every (numbered p.now.places) rows.now ≡ true }
     ensures { result ≡ every (roomy p.now.places p.now.lens tally.now) rows.now }
 {
     for row in rows {
@@ -79,7 +77,6 @@ pub fn lines_refusal(
     end: u64,
     category: u8,
 ) -> Result<(), Refusal>
-    requires { FewBookings p.now.lens }
     ensures { RowsRefusal p.now.places p.now.lens (lines_of (length rows.now) rows.now) start end category (refused result) }
 {
     if !numbers_right(rows, &p.places) || category > 15 {

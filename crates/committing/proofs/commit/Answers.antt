@@ -16,9 +16,6 @@ returns-then-count-eq0 c = reply-none _ c.in-Some.ensures.0 c.if-count-eq0.true
 pub returns-then-count-slate : goal.returns-then-count-slate
 returns-then-count-slate c = reply_refused _ Slate (refusal-count _ c.in-Some.ensures.0 (ne_eqb _ 0 c.if-count-eq0.false) c.if-count-slate.true)
 
-pub lines_refusal-requires : goal.lines_refusal-requires
-lines_refusal-requires c = c.in-Some.ensures.3
-
 pub returns-in_err-lines_refusal : goal.returns-in_err-lines_refusal
 returns-in_err-lines_refusal c =
     let s = c.in-Some.ensures in
