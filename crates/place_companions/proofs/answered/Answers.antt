@@ -1,5 +1,4 @@
 -- `place_companions::answered` meets its contract.
-use borrow.Author.Rules.{rules}
 use mathlib.Core.Path.{refl}
 use Rattle.timeline_fit.specs.Steps.{start_of}
 use Rattle.place_companions.specs.Steps.{answered_by}

@@ -1,5 +1,4 @@
 -- `place_companions::start_on` meets its contract.
-use borrow.Author.Rules.{rules}
 use mathlib.Core.Path.{sym, ap, ◌∙◌}
 use Rattle.calendar.specs.Search.{Found}
 use Rattle.calendar_work.specs.Layout.{found_of}
