@@ -131,7 +131,7 @@ module _ (b : Board) (v : valid b ≡ true) (places : List ℕ) (known : Known b
               let w = companion-at (companions_of r) small on own k (omega (arith, length-map (companions_of r) (one_unit b))) in
               (w.0, rw (lt-ltb 0 (suc k) (omega arith)) (sym w.1))
 
-      seat-is : seat_of own (companions_of r) places i ≡ Some (get_or (own ∷ map (place_in places) (companions_of r)) i own)
+      pub seat-is : seat_of own (companions_of r) places i ≡ Some (get_or (own ∷ map (place_in places) (companions_of r)) i own)
       unfolding seat_of
       seat-is = rw (every-placed (companions_of r) small, on) refl
 
