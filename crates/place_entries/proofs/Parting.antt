@@ -1,5 +1,5 @@
 -- What is taken from the board for those held, one held more; and what it amounts to.
-use Rattle.std.specs.Prelude.{◌≡◌, ℕ, ◌+◌, ◌^◌, ◌<◌, ◌≤◌, Bool, true, false, cond, List, [], ◌∷◌, ◌++◌, map, length, get_or, take, unwrap_or}
+use Rattle.std.specs.Prelude.{◌≡◌, ℕ, ◌+◌, ◌^◌, ◌<◌, ◌≤◌, Bool, true, false, cond, List, [], ◌∷◌, ◌++◌, map, length, get_or, take, unwrap_or, Option}
 use Rattle.std.specs.Bool.{then_some}
 use mathlib.Core.Path.{refl, sym, ap, ◌∙◌}
 use mathlib.Core.List.{append_assoc, append-nil, map-append, map-map}
@@ -14,7 +14,6 @@ use Rattle.activity.specs.Durations.{duration_on}
 use Rattle.activity.specs.Lawful.{Lawful}
 use Rattle.activity.specs.Theorems.Meaning.{Bounded, duration-bounded}
 use Rattle.board.specs.declared.TransitionMatrix.{TransitionMatrix}
-use Rattle.board.specs.declared.LastCategory.{LastCategory}
 use Rattle.board.specs.declared.Resource.{Resource}
 use Rattle.board.specs.declared.Board.{Board}
 use Rattle.board.specs.Resources.{resource_at}
@@ -42,7 +41,7 @@ companions-last [] h = append-nil (companions_of h.resource)
 companions-last (x ∷ hs) h = ap (λ (cs : List ℕ). companions_of x.resource ++ cs) (companions-last hs h) ∙ sym (append_assoc (companions_of x.resource) (all_companions hs) (companions_of h.resource))
 
 -- a setup kept apart from the order's own
-pub setup-kept : (m : TransitionMatrix) (last : LastCategory) (category own : ℕ) → unwrap_or (then_some m.present (setup_ms m last category 0)) own ≡ setup_ms m last category own
+pub setup-kept : (m : TransitionMatrix) (last : Option ℕ) (category own : ℕ) → unwrap_or (then_some m.present (setup_ms m last category 0)) own ≡ setup_ms m last category own
 unfolding setup_ms
 setup-kept m last category own = go m.present
   where

@@ -1,4 +1,5 @@
 -- The order in hand, by the parts of its records.
+use Rattle.std.specs.Prelude.{Option, Some, None}
 use mathlib.Core.Path.{◌≡◌, refl}
 use mathlib.Core.Bool.{true, false}
 use mathlib.Core.List.{List}
@@ -16,8 +17,6 @@ use Rattle.activity.specs.declared.ActivityDuration.{ActivityDuration}
 use Rattle.activity.specs.declared.ResourceTiming.{ResourceTiming}
 use Rattle.activity.specs.declared.ResourceTiming.TheVariants.{Speed, Duration}
 use Rattle.activity.specs.declared.ResourceRequirement.{ResourceRequirement}
-use Rattle.activity.specs.declared.Release.{Release}
-use Rattle.activity.specs.declared.Release.TheVariants.{Absent, At}
 use Rattle.activity.specs.declared.Activity.{Activity}
 use Rattle.record_desk.specs.declared.Desk.{Desk}
 use Rattle.record_bodies.specs.Bodies.{byte}
@@ -25,11 +24,11 @@ use Rattle.activity.specs.Order.{order_with, with_requirement, with_timing}
 use Rattle.record_desk.specs.Desk.{with_diary, with_order}
 use Rattle.record_board.specs.Orders.{duration_at, release_of, order_by, order_at, flag_above, order_does, requirement_at, timing_at, part_reply}
 
-pub released : (p n : ℕ) → p ≡ 1 → At n ≡ release_of p n
+pub released : (p n : ℕ) → p ≡ 1 → Some n ≡ release_of p n
 unfolding release_of
 released p n e = rw (eq-eqb p 1 e) refl
 
-pub unreleased : (p n : ℕ) → (p ≡ 1 → ⊥) → Absent ≡ release_of p n
+pub unreleased : (p n : ℕ) → (p ≡ 1 → ⊥) → None ≡ release_of p n
 unfolding release_of
 unreleased p n e = rw (ne_eqb p 1 e) refl
 
@@ -44,7 +43,7 @@ module _ (bs : List ℕ) (i : ℕ) where
   above-last f g = rw (le-ltb 1 (byte bs (i + 25)) f, le-ltb 1 (byte bs (i + 26)) g) refl
 
   -- the order of a body from its parts
-  pub by_parts : (c : Calendar) (t : ActivityDuration) (r : Release) (n o : ℕ) (a : Activity)
+  pub by_parts : (c : Calendar) (t : ActivityDuration) (r : Option ℕ) (n o : ℕ) (a : Activity)
       → t ≡ duration_at bs (i + 1) → n ≡ little bs (i + 27) 8 → r ≡ release_of (byte bs (i + 26)) n → o ≡ little bs (i + 35) 2
       → a ≡ order_with (byte bs i) t (eqb (byte bs (i + 25)) 1) r c o → a ≡ order_by bs i c
   unfolding order_by

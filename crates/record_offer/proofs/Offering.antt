@@ -8,7 +8,7 @@ use lib.ListN.{length, drop, length-append, length-map}
 use lib.Dec.{leb, eqb}
 use borrow.Author.Tests.{le-leb, lt-leb, eq-eqb, ne_eqb}
 use Rattle.record_bodies.specs.Numbers.{little}
-use Rattle.board.specs.declared.Entered.{Entered}
+use Rattle.board.specs.Replies.{Entered}
 use Rattle.scheduler.specs.Placing.{Reply, placed, chosen_none, none, refused, slate_after, place_reply}
 use Rattle.scheduler.specs.Rows.{Row, row_of}
 use Rattle.scheduler.specs.Committing.{commit_reply}

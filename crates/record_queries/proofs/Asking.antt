@@ -1,5 +1,5 @@
 -- What the asks answer, in the words of the definitions.
-use Rattle.std.specs.Prelude.{◌≡◌, ℕ, ◌+◌, ◌-◌, ◌^◌, ◌<◌, ◌≤◌, Bool, true, false, cond, not, eqb, List}
+use Rattle.std.specs.Prelude.{◌≡◌, ℕ, ◌+◌, ◌-◌, ◌^◌, ◌<◌, ◌≤◌, Bool, true, false, cond, not, eqb, List, Option, Some, None}
 use mathlib.Core.Path.{refl, sym, ap, ◌∙◌}
 use native.Mathlib.Nat.{eq-or-lt_of_le}
 use native.Mathlib.Omega.{arith}
@@ -11,8 +11,6 @@ use Rattle.record_bodies.specs.Numbers.{little}
 use Rattle.activity.specs.declared.ResourceRequirement.{ResourceRequirement}
 use Rattle.activity.specs.Check.{DurationReply, duration_reply}
 use Rattle.activity.specs.Serving.{serves}
-use Rattle.board.specs.declared.LastCategory.{LastCategory}
-use Rattle.board.specs.declared.LastCategory.TheVariants.{Nothing, Category}
 use Rattle.board.specs.declared.Board.{Board}
 use Rattle.board.specs.Resources.{resource_at, lookup}
 use Rattle.board.specs.Setups.{setup_ms}
@@ -25,8 +23,7 @@ use Rattle.board.specs.Theorems.Meaning.{transport-is}
 use Rattle.record_desk.specs.declared.Desk.{Desk}
 use Rattle.record_board.specs.declared.DeskStepped.{DeskStepped}
 use Rattle.record_queries.specs.declared.QueryTurn.{QueryTurn}
-use Rattle.board_numbers.specs.declared.PlaceFor.{PlaceFor}
-use Rattle.board_numbers.specs.Entry.{entry_at, entry_for}
+use Rattle.board_numbers.specs.Entry.{PlaceFor, entry_at, entry_for}
 use Rattle.board_numbers.proofs.Standing.{on-small}
 use Rattle.calendar.specs.Refusals.{refused_or}
 use Rattle.calendar.specs.Laws.Refusals.{refused-by}
@@ -67,11 +64,11 @@ module _ (b : Board) (number : ℕ) where
   unfolding refused_or
   taken-place r a rest q h e = rw (sym q.number_refusal ∙ h) e
 
-pub no_last : (c : ℕ) → 15 < c → (Nothing ≡ last_of c) × (last_right Nothing ≡ true)
+pub no_last : (c : ℕ) → 15 < c → (None ≡ last_of c) × (last_right None ≡ true)
 unfolding last_of last_right
 no_last c h = (rw (lt-ltb 15 c h) refl, refl)
 
-pub a-last : (c : ℕ) → c ≤ 15 → (Category c ≡ last_of c) × (last_right (Category c) ≡ true)
+pub a-last : (c : ℕ) → c ≤ 15 → (Some c ≡ last_of c) × (last_right (Some c) ≡ true)
 unfolding last_of last_right
 a-last c h = (rw (le-ltb 15 c h) refl, le-leb c 15 h)
 
@@ -88,7 +85,7 @@ module _ (b : Board) (number last category own : ℕ) (r : PlaceFor) (q : Locate
   unfolding setup_reply
   setup-own h l m = taken-place b number r _ _ q h (rw (le-ltb 15 category l, lt-ltb (2 ^ 36) own m) refl)
 
-  pub setup-is : (before : LastCategory) (ms : ℕ) → r.refusal ≡ 0 → category ≤ 15 → own ≤ 68719476736 → before ≡ last_of last
+  pub setup-is : (before : Option ℕ) (ms : ℕ) → r.refusal ≡ 0 → category ≤ 15 → own ≤ 68719476736 → before ≡ last_of last
       → ms ≡ setup_ms (resource_at b r.place).matrix before category own → Setup ms ≡ setup_reply b number last category own
   unfolding setup_reply place_of
   setup-is before ms h l m f e =
