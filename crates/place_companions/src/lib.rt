@@ -16,10 +16,8 @@ ghost use Rattle.place_companions.specs.Members.{member_of};
 
 use activity::ResourceRequirement;
 use calendar::limits::NEVER;
-use calendar_work::WorkEnd;
 use place_plans::Plan;
 use timeline::ResourceTimeline;
-use timeline_fit::Start;
 
 // The place of the i-th of a resource and its companions, the resource itself first; none where a companion has no place on the board.
 pub fn seat_of(own: usize, companions: &[u8], places: &[usize; 16], i: usize) -> Option<usize>
@@ -47,19 +45,22 @@ pub struct Asking {
 }
 
 // The least start on one diary, unbroken or resumable.
-pub fn start_on(t: ResourceTimeline, resumable: bool, span: u64, units: u32, from: u64) -> Start
+pub fn start_on(
+    t: ResourceTimeline,
+    resumable: bool,
+    span: u64,
+    units: u32,
+    from: u64,
+) -> Option<u64>
     requires { (valid t ≡ true) × (from ≤ last_asked) × (span ≤ longest_span) × (1 ≤ units) }
     ensures { start_of result ≡ start_on resumable span (record { timeline = t; units = units }) from }
 {
     if resumable {
-        let r = timeline_resume::earliest_resumable(t, from, span, units);
-        let end = r.end;
-        return match end {
-            WorkEnd::At(_) => Start::At(r.start),
-            WorkEnd::Nothing => Start::Nothing,
-        };
+        let (start, _) = timeline_resume::earliest_resumable(t, from, span, units)?;
+        Some(start)
+    } else {
+        timeline_fit::earliest_fit(t, from, span, units)
     }
-    timeline_fit::earliest_fit(t, from, span, units)
 }
 
 // The diary to ask after the i-th: the next, and the first again where the start has moved on past those in front.
@@ -77,16 +78,16 @@ pub fn unasked() -> Asking
 }
 
 // The i-th of at most five has answered, asked from an instant on. Where it has no start, none of the others is asked: 2^63, and past them.
-pub fn answered(i: usize, from: u64, s: Start) -> Asking
+pub fn answered(i: usize, from: u64, s: Option<u64>) -> Asking
     requires { i < never }
     ensures { result ≡ answered_by i from (start_of s) }
 {
     match s {
-        Start::At(x) => Asking {
+        Some(x) => Asking {
             start: x,
             next: next_asked(i, x == from),
         },
-        Start::Nothing => Asking {
+        None => Asking {
             start: NEVER,
             next: 5,
         },
