@@ -5,6 +5,7 @@ use native.Mathlib.Omega.{arith}
 use lib.ListN.{length-set}
 use Rattle.activity.specs.declared.Activity.{Activity}
 use Rattle.activity.specs.declared.ActivityDuration.{ActivityDuration}
+use Rattle.activity.specs.declared.ResourceTiming.{ResourceTiming}
 use Rattle.activity.specs.Check.{activity_refusal}
 use Rattle.activity.specs.Durations.{duration_on}
 use Rattle.activity.specs.Lawful.{Lawful}

@@ -1,5 +1,5 @@
 -- Companions that join once each: at most sixteen, for they are resource numbers.
-use Rattle.std.specs.Prelude.{◌≡◌, ℕ, suc, ◌+◌, ◌-◌, ◌<◌, ◌≤◌, Bool, true, false, cond, ◌||◌, eqb, ltb, List, [], ◌∷◌, ◌++◌, map, length, get_or, take, drop, set}
+use Rattle.std.specs.Prelude.{◌≡◌, ℕ, suc, ◌+◌, ◌<◌, ◌≤◌, Bool, true, false, cond, ◌||◌, eqb, ltb, List, [], ◌∷◌, ◌++◌, map, length, get_or, take, set}
 use mathlib.Core.Path.{refl, sym, ap, ◌∙◌}
 use mathlib.Core.Bool.{or-false}
 use mathlib.Core.List.{append_assoc, append-nil, map-append, map-map, map-id}
@@ -7,13 +7,14 @@ use native.Mathlib.Omega.{arith}
 use borrow.Author.Tests.{lt-ltb, eq-eqb, ne_eqb}
 use lib.ListN.{length-set, length-append}
 use lib.Seq.{take-suc-set, get_or-take, length-take-le}
+use Rattle.std.specs.List.{list_any}
 use Rattle.board.specs.Laws.Counts.{count_to, count_none, count_most, count-more}
 use Rattle.scheduler.specs.declared.Entry.{Entry}
 use Rattle.scheduler.specs.Fitting.{among, join_each}
-use Rattle.scheduler.specs.Entries.{companion_entry, no_entry}
+use Rattle.scheduler.specs.Entries.{companion_entry}
 use Rattle.scheduler.specs.Laws.Events.{among-append}
 use Rattle.cells.specs.Every.{Each}
-use Rattle.cells.specs.Laws.Basics.{or_right, take_next, take_split}
+use Rattle.cells.specs.Laws.Basics.{or_right, take_next}
 use Rattle.place_entries.specs.Cells.{entry_number, Small}
 use Rattle.cells.specs.Laws.Arrays.{each_at}
 
@@ -77,25 +78,11 @@ module _ (es : List Entry) (n : ℕ) (js : List ℕ) (xs : List Entry) (k : ℕ)
       once = more;
     }
 
--- one entry more is looked at
-module _ (es : List Entry) (number i : ℕ) (l : i < length es) where
-  among_next : among number (map entry_number (take (i + 1) es)) ≡ among number (map entry_number (take i es)) || eqb (get_or es i no_entry).number number
-  unfolding among
-  among_next =
-      ap (λ (xs : List Entry). among number (map entry_number xs)) (take_next es i no_entry l)
-      ∙ ap (among number) (map-append entry_number (take i es) (get_or es i no_entry ∷ []))
-      ∙ among-append number (map entry_number (take i es)) ((get_or es i no_entry).number ∷ [])
-      ∙ ap (λ (p : Bool). among number (map entry_number (take i es)) || p) (or-false (eqb (get_or es i no_entry).number number))
-
-  pub among-other : among number (map entry_number (take i es)) ≡ false → ((get_or es i no_entry).number ≡ number → ⊥) → among number (map entry_number (take (i + 1) es)) ≡ false
-  among-other e h = among_next ∙ rw (e, ne_eqb (get_or es i no_entry).number number h) refl
-
-  pub among-found : among number (map entry_number (take i es)) ≡ false → (get_or es i no_entry).number ≡ number → (n : ℕ) → i < n → among number (map entry_number (take n es)) ≡ true
-  among-found e h n m =
-      ap (λ (xs : List Entry). among number (map entry_number xs)) (take_split es i n m)
-      ∙ ap (among number) (map-append entry_number (take (i + 1) es) (take (n - (i + 1)) (drop (i + 1) es)))
-      ∙ among-append number (map entry_number (take (i + 1) es)) (map entry_number (take (n - (i + 1)) (drop (i + 1) es)))
-      ∙ rw (among_next, e, eq-eqb (get_or es i no_entry).number number h) refl
+-- an entry with a number, as `any` looks for it
+pub any-among : (number : ℕ) (es : List Entry) → list_any (λ (x : Entry). eqb x.number number) es ≡ among number (map entry_number es)
+unfolding among
+any-among number [] = refl
+any-among number (e ∷ es) = ap (λ (p : Bool). eqb e.number number || p) (any-among number es)
 
 -- one companion more
 module _ (es : List Entry) (n : ℕ) (cs : List ℕ) (i : ℕ) (xs : List Entry) (k : ℕ) (l : i < length cs) (j : Joined es n (join_each (map entry_number es) [] (take i cs)) xs k) where
