@@ -10,7 +10,7 @@ use lib.IntN.{pos}
 use lib.Dec.{eqb}
 use borrow.Author.Tests.{lt-ltb, le-ltb, le-leb, lt-leb, eq-eqb, ne_eqb}
 use Rattle.timeline.specs.declared.ResourceTimeline.{ResourceTimeline}
-use Rattle.timeline.specs.Replies.{Booked}
+use Rattle.timeline.specs.declared.Booked.{Booked}
 use Rattle.timeline.specs.Diary.{new_diary}
 use Rattle.timeline.specs.Book.{book_reply, calendar_reply}
 use Rattle.timeline.specs.Ask.{AskReply, refused, fit_reply, resumable_reply}

@@ -1,9 +1,9 @@
--- The refusals of an order one by one, and what an order that is not refused keeps.
+-- The refusals of an order one by one, and what an order that is not refused keeps, and the other way round.
 use Rattle.std.specs.Prelude.{◌≡◌, ℕ, ◌^◌, ◌<◌, ◌≤◌, Bool, true, false, cond, not, ◌&&◌, ◌||◌, ltb, leb, List, ◌∷◌, length, get_or, take, nat_le, nat_lt, slice_index, slice_index_or}
 use Rattle.std.proofs.Math.Path.{refl, sym}
 use Rattle.std.proofs.Common.{subst, arith, get_or-take}
 use Rattle.std.proofs.Math.Bool.{and-false}
-use borrow.Author.Tests.{lt-ltb, le-ltb, le-leb, lt-leb, leb-true, ltb-false, not-false}
+use borrow.Author.Tests.{lt-ltb, lt-leb, le-ltb, le-leb, leb-true, ltb-false, not-false}
 use Rattle.cells.specs.Laws.Basics.{and_split, and-join, or_left, or_right, unrefused}
 use Rattle.activity.specs.declared.ActivityDuration.{ActivityDuration}
 use Rattle.activity.specs.declared.ResourceTiming.{ResourceTiming}

@@ -15,7 +15,7 @@ refused-by n m b after e h = rw e (refused m (λ z. h (e ∙ z)))
     refused zero f = absurd (f refl)
     refused (suc k) f = refl
 
--- .. by name
+-- a refusal by name
 pub refused_as : (e : Refusal) (m : ℕ) (b after : Board) → number_of e ≡ m → record { refusal = number_of e; board = b } ≡ entered m b after
 refused_as e m b after h = refused-by (number_of e) m b after h (numbered e)
 

@@ -1,16 +1,16 @@
 -- The table of places against the board, and the setup by a matrix.
 use borrow.Author.Tests.{leb-true, eq-eqb, ne_eqb}
-use Rattle.std.specs.Prelude.{true, false, List, ◌≡◌, ℕ, suc, ◌+◌, ◌*◌, ◌/◌, ◌%◌, ◌≤◌, ◌<◌, min, ltb, pos, get_or, set, Option, Some, None}
+use Rattle.std.specs.Prelude.{true, false, List, Option, Some, None, ◌≡◌, ℕ, suc, ◌+◌, ◌*◌, ◌/◌, ◌%◌, ◌≤◌, ◌<◌, min, ltb, pos, get_or, set}
 use Rattle.std.proofs.Math.Path.{refl}
 use Rattle.std.proofs.Common.{arith}
 use Rattle.board.specs.Resources.{number_at, lookup_to}
 use Rattle.calendar.specs.Search.{is_at}
-use Rattle.board.specs.Setups.{entry_or, matrix_setup, setup_ms}
 use Rattle.cells.specs.Every.{every_from}
 use Rattle.cells.specs.Laws.Every.{from-same}
+use Rattle.board.specs.Setups.{entry_or, matrix_setup, setup_ms}
+use Rattle.board.specs.declared.TransitionMatrix.{TransitionMatrix}
 use Rattle.board.specs.Valid.{last_right, transport_cell, transport_right}
 use Rattle.board.specs.declared.Board.{Board}
-use Rattle.board.specs.declared.TransitionMatrix.{TransitionMatrix}
 use Rattle.board.specs.Laws.Seeing.{Seen, seen-on, seen_more}
 
 pub seen_next : (b : Board) (i : ℕ) (places : List ℕ) → Seen b (min i b.len) places → i < b.len → number_at b i < 16 → is_at (lookup_to b i (number_at b i)) ≡ false
