@@ -53,22 +53,22 @@ cut-short bs i n h l s =
 pub counted : (bs : List ℕ) (i n x : ℕ) → 10 < length (take (n - i) (drop i bs)) → x ≡ get_or (take (n - i) (drop i bs)) 10 0 → x ≡ byte bs (i + 10)
 counted bs i n x h e = e ∙ get_or-take (n - i) (drop i bs) 10 0 (omega (arith, length-take (n - i) (drop i bs))) ∙ get_or-drop i bs 10 0
 
-pub change-len : (c : Change) (bs : List ℕ) (i : ℕ) → (len_of (change_number c) bs i ≡ diary_len (change_number c)) × (0 < diary_len (change_number c))
+pub change-len : (c : Change) (bs : List ℕ) (i : ℕ) → len_of (change_number c) bs i ≡ diary_len (change_number c)
 unfolding len_of fixed_len diary_len
-change-len Capacity bs i = (refl, omega arith)
-change-len Window bs i = (refl, omega arith)
-change-len Block bs i = (refl, omega arith)
-change-len Booking bs i = (refl, omega arith)
+change-len Capacity bs i = refl
+change-len Window bs i = refl
+change-len Block bs i = refl
+change-len Booking bs i = refl
 
-pub entry-len : (e : Entry) (bs : List ℕ) (i : ℕ) → (len_of (entry_number e) bs i ≡ fixed_len (entry_number e)) × (0 < fixed_len (entry_number e))
+pub entry-len : (e : Entry) (bs : List ℕ) (i : ℕ) → len_of (entry_number e) bs i ≡ fixed_len (entry_number e)
 unfolding len_of fixed_len
-entry-len Matrix bs i = (refl, omega arith)
-entry-len Transition bs i = (refl, omega arith)
-entry-len Initial bs i = (refl, omega arith)
-entry-len Transport bs i = (refl, omega arith)
+entry-len Matrix bs i = refl
+entry-len Transition bs i = refl
+entry-len Initial bs i = refl
+entry-len Transport bs i = refl
 
-pub part-len : (p : Part) (bs : List ℕ) (i : ℕ) → (len_of (part_number p) bs i ≡ fixed_len (part_number p)) × (0 < fixed_len (part_number p))
+pub part-len : (p : Part) (bs : List ℕ) (i : ℕ) → len_of (part_number p) bs i ≡ fixed_len (part_number p)
 unfolding len_of fixed_len
-part-len Requirement bs i = (refl, omega arith)
-part-len Speed bs i = (refl, omega arith)
-part-len Durations bs i = (refl, omega arith)
+part-len Requirement bs i = refl
+part-len Speed bs i = refl
+part-len Durations bs i = refl

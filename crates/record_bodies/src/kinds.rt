@@ -55,7 +55,7 @@ pub enum BoardKind {
 impl Change {
     #[tactic(auto, unfolding(crate::specs::Bodies::diary_len))]
     fn len(self) -> usize
-        ensures { result ≡ diary_len (change_number self) }
+        ensures { (result ≡ diary_len (change_number self)) × (0 < result) }
     {
         match self {
             Change::Capacity => 4,
@@ -69,7 +69,7 @@ impl DiaryKind {
     // How many bytes the body has.
     #[tactic(auto, unfolding(crate::specs::Bodies::diary_len))]
     pub fn len(self) -> usize
-        ensures { result ≡ diary_len (diary_number self) }
+        ensures { (result ≡ diary_len (diary_number self)) × (0 < result) }
     {
         match self {
             DiaryKind::Change(change) => change.len(),
@@ -99,7 +99,7 @@ impl TryFrom<u8> for DiaryKind {
 impl Entry {
     #[tactic(auto, unfolding(crate::specs::Bodies::diary_len, crate::specs::Bodies::fixed_len))]
     fn len(self) -> usize
-        ensures { result ≡ fixed_len (entry_number self) }
+        ensures { (result ≡ fixed_len (entry_number self)) × (0 < result) }
     {
         match self {
             Entry::Matrix => 17,
@@ -112,7 +112,7 @@ impl Entry {
 impl Part {
     #[tactic(auto, unfolding(crate::specs::Bodies::diary_len, crate::specs::Bodies::fixed_len))]
     fn len(self) -> usize
-        ensures { result ≡ fixed_len (part_number self) }
+        ensures { (result ≡ fixed_len (part_number self)) × (0 < result) }
     {
         match self {
             Part::Requirement => 19,

@@ -4,10 +4,11 @@
 ghost use Rattle.std.specs.Prelude.{◌≡◌, ◌+◌, ◌≤◌, ◌<◌, length, false};
 ghost use Rattle.record_diary_text.specs.Lines.{line_of, line as printed};
 ghost use Rattle.record_bodies.specs.Bodies.{diary_len};
+ghost use Rattle.record_bodies.specs.Kinds.{change_number, diary_number};
 ghost use Rattle.record_diary.specs.Records.{stepped_of, turn_of, capacity_reply, books, asks, record_does, turn_reply};
 ghost use Rattle.timeline_asks.specs.Answers.{reply_of};
 
-use record_bodies::number;
+use record_bodies::{Change, DiaryKind, number};
 use record_diary_text::Line;
 use timeline::{Booked, ResourceTimeline};
 use timeline_asks::Answer;
@@ -29,12 +30,13 @@ pub struct DiaryTurn {
 }
 
 // Kind 1: a new diary, or 1 for a capacity above 2^31 - 1.
+#[tactic(auto, unfolding(crate::specs::Records::stepped_of, crate::specs::Records::capacity_reply, record_diary_text::specs::Lines::line_of))]
 fn renew(timeline: ResourceTimeline, capacity: u64) -> DiaryStepped
     ensures { stepped_of result ≡ capacity_reply timeline capacity }
 {
     if capacity > 2147483647 {
         return DiaryStepped {
-            timeline: timeline,
+            timeline,
             line: Line::Refused(1),
         };
     }
@@ -46,6 +48,7 @@ fn renew(timeline: ResourceTimeline, capacity: u64) -> DiaryStepped
 }
 
 // Kinds 2 to 4: only a refusal prints.
+#[tactic(auto, unfolding(crate::specs::Records::stepped_of, crate::specs::Records::books, record_diary_text::specs::Lines::line_of))]
 fn told(b: Booked) -> DiaryStepped
     ensures { stepped_of result ≡ books b }
 {
@@ -63,16 +66,15 @@ fn told(b: Booked) -> DiaryStepped
 }
 
 // Kinds 5 and 6: the reply prints, and the diary stays.
+#[tactic(auto, unfolding(crate::specs::Records::stepped_of, crate::specs::Records::asks))]
 fn asked(timeline: ResourceTimeline, a: Answer) -> DiaryStepped
     ensures { stepped_of result ≡ asks timeline (reply_of a) }
 {
     let line = line_of(a);
-    DiaryStepped {
-        timeline: timeline,
-        line: line,
-    }
+    DiaryStepped { timeline, line }
 }
 
+#[tactic(auto, unfolding(timeline_asks::specs::Answers::reply_of, record_diary_text::specs::Lines::line_of))]
 fn line_of(a: Answer) -> Line
     ensures { line_of result ≡ printed (reply_of a) }
 {
@@ -83,36 +85,58 @@ fn line_of(a: Answer) -> Line
     }
 }
 
-// What one record of a known kind does, its body beginning at `at`.
-pub fn step(timeline: ResourceTimeline, kind: u8, bytes: &[u8], at: usize) -> DiaryStepped
-    requires { (0 < diary_len kind) × (at + diary_len kind ≤ length bytes.now) }
-    ensures { stepped_of result ≡ record_does timeline kind bytes.now at }
+// Kinds 1 to 4: what changes the diary.
+#[tactic(auto, unfolding(crate::specs::Records::record_does, record_bodies::specs::Bodies::diary_len))]
+pub fn change(timeline: ResourceTimeline, change: Change, bytes: &[u8], at: usize) -> DiaryStepped
+    requires { at + diary_len (change_number change) ≤ length bytes.now }
+    ensures { stepped_of result ≡ record_does timeline (change_number change) bytes.now at }
 {
-    if kind == 1 {
-        return renew(timeline, number(bytes, at, 4));
-    }
-    let first = number(bytes, at, 8);
-    let second = number(bytes, at + 8, 8);
-    if kind == 2 {
-        return told(timeline_windows::add_window(timeline, first, second));
-    }
-    if kind == 3 {
-        return told(timeline_windows::add_block(timeline, first, second));
-    }
-    let units = number(bytes, at + 16, 4) as u32;
-    if kind == 4 {
-        return told(timeline.book(first, second, units));
-    }
-    if kind == 5 {
-        return asked(
+    match change {
+        Change::Capacity => renew(timeline, number(bytes, at, 4)),
+        Change::Window => told(timeline_windows::add_window(
             timeline,
-            timeline_asks::earliest_fit(timeline, first, second, units),
-        );
+            number(bytes, at, 8),
+            number(bytes, at + 8, 8),
+        )),
+        Change::Block => told(timeline_windows::add_block(
+            timeline,
+            number(bytes, at, 8),
+            number(bytes, at + 8, 8),
+        )),
+        Change::Booking => {
+            let units = number(bytes, at + 16, 4) as u32;
+            told(timeline.book(number(bytes, at, 8), number(bytes, at + 8, 8), units))
+        }
     }
-    asked(
-        timeline,
-        timeline_asks::earliest_resumable(timeline, first, second, units),
-    )
+}
+
+// What one record does, its body beginning at `at`.
+#[tactic(auto, unfolding(crate::specs::Records::record_does, record_bodies::specs::Bodies::diary_len))]
+pub fn step(timeline: ResourceTimeline, kind: DiaryKind, bytes: &[u8], at: usize) -> DiaryStepped
+    requires { at + diary_len (diary_number kind) ≤ length bytes.now }
+    ensures { stepped_of result ≡ record_does timeline (diary_number kind) bytes.now at }
+{
+    match kind {
+        DiaryKind::Change(c) => change(timeline, c, bytes, at),
+        DiaryKind::Fit => {
+            let from = number(bytes, at, 8);
+            let span = number(bytes, at + 8, 8);
+            let units = number(bytes, at + 16, 4) as u32;
+            asked(
+                timeline,
+                timeline_asks::earliest_fit(timeline, from, span, units),
+            )
+        }
+        DiaryKind::Resumable => {
+            let from = number(bytes, at, 8);
+            let work = number(bytes, at + 8, 8);
+            let units = number(bytes, at + 16, 4) as u32;
+            asked(
+                timeline,
+                timeline_asks::earliest_resumable(timeline, from, work, units),
+            )
+        }
+    }
 }
 
 // The stream ends here, and prints the line.
@@ -120,15 +144,16 @@ fn last(timeline: ResourceTimeline, line: Line, at: usize) -> DiaryTurn
     ensures { (result.timeline ≡ timeline) × (result.line ≡ line) × (result.at ≡ at) × (result.more ≡ false) }
 {
     DiaryTurn {
-        timeline: timeline,
-        line: line,
-        at: at,
+        timeline,
+        line,
+        at,
         more: false,
     }
 }
 
 // The record that begins at `at`, `len` being the end of the input: nothing where the input ends here, 9 for an unknown kind or a
 // cut body.
+#[tactic(auto, unfolding(crate::specs::Records::turn_of, crate::specs::Records::turn_reply, crate::specs::Records::stepped_of, record_diary_text::specs::Lines::line_of))]
 pub fn record(timeline: ResourceTimeline, bytes: &[u8], at: usize, len: usize) -> DiaryTurn
     requires { (at ≤ len) × (len ≤ length bytes.now) }
     ensures result_value { turn_of result ≡ turn_reply timeline bytes.now at len }
@@ -137,20 +162,17 @@ pub fn record(timeline: ResourceTimeline, bytes: &[u8], at: usize, len: usize) -
     if at == len {
         return last(timeline, Line::Nothing, at);
     }
-    let kind = bytes[at];
-    let n = record_bodies::diary_len(kind);
-    if n == 0 {
+    let Ok(kind) = DiaryKind::try_from(bytes[at]) else {
         return last(timeline, Line::Refused(9), at);
-    }
+    };
+    let n = kind.len();
     if len - at <= n {
         return last(timeline, Line::Refused(9), at);
     }
-    let s = step(timeline, kind, bytes, at + 1);
-    let t = s.timeline;
-    let line = s.line;
+    let DiaryStepped { timeline, line } = step(timeline, kind, bytes, at + 1);
     DiaryTurn {
-        timeline: t,
-        line: line,
+        timeline,
+        line,
         at: at + 1 + n,
         more: true,
     }

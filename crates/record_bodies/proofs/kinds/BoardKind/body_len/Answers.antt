@@ -14,7 +14,7 @@ returns-in_err-count-in-Resource c =
 pub returns-in-Change : goal.returns-in-Change
 returns-in-Change c =
     let l = change-len c.in-Change.change c.args.bytes.now c.args.at in
-    rw c.in-Change.is (body-read _ _ _ _ c.len.result c.whole.result c.requires.0 (l.0 ∙ sym c.len.ensures) (omega arith) c.whole.ensures)
+    rw c.in-Change.is (body-read _ _ _ _ c.len.result c.whole.result c.requires.0 (l ∙ sym c.len.ensures.0) (omega arith) c.whole.ensures)
 
 pub returns-in_ok-count-in-Resource : goal.returns-in_ok-count-in-Resource
 unfolding len_of
@@ -26,7 +26,7 @@ returns-in_ok-count-in-Resource c =
 pub returns-in-Entry : goal.returns-in-Entry
 returns-in-Entry c =
     let l = entry-len c.in-Entry.entry c.args.bytes.now c.args.at in
-    rw c.in-Entry.is (body-read _ _ _ _ c.len-in-Entry.result c.whole-in-Entry.result c.requires.0 (l.0 ∙ sym c.len-in-Entry.ensures) (omega arith) c.whole-in-Entry.ensures)
+    rw c.in-Entry.is (body-read _ _ _ _ c.len-in-Entry.result c.whole-in-Entry.result c.requires.0 (l ∙ sym c.len-in-Entry.ensures.0) (omega arith) c.whole-in-Entry.ensures)
 
 pub returns-in-Order : goal.returns-in-Order
 unfolding len_of fixed_len
@@ -35,4 +35,4 @@ returns-in-Order c = rw c.in-Order.is (body-read 21 _ _ _ 38 c.whole-in-Order.re
 pub returns-in-Part : goal.returns-in-Part
 returns-in-Part c =
     let l = part-len c.in-Part.part c.args.bytes.now c.args.at in
-    rw c.in-Part.is (body-read _ _ _ _ c.len-in-Part.result c.whole-in-Part.result c.requires.0 (l.0 ∙ sym c.len-in-Part.ensures) (omega arith) c.whole-in-Part.ensures)
+    rw c.in-Part.is (body-read _ _ _ _ c.len-in-Part.result c.whole-in-Part.result c.requires.0 (l ∙ sym c.len-in-Part.ensures.0) (omega arith) c.whole-in-Part.ensures)
