@@ -63,6 +63,10 @@ requirement_at bs i = record {
 unfoldable pub timing_at : ℕ → List ℕ → ℕ → ResourceTiming
 timing_at kind bs i = cond (eqb kind 23) (Speed (of_bits binary64 (little bs (i + 1) 8))) (Duration (duration_at bs (i + 1)))
 
+-- a timing, its number above 15 refused 5
+abbrev pub timed : Activity → ℕ → ResourceTiming → Ordered
+timed a number t = cond (ltb 15 number) (record { refusal = 5; activity = a }) (record { refusal = 0; activity = with_timing a number t })
+
 -- kind 22 one requirement more; 23 and 24 a timing, its number (1) above 15 refused 5
 unfoldable pub part_reply : Activity → ℕ → List ℕ → ℕ → Ordered
 part_reply a kind bs i =
