@@ -4,12 +4,16 @@
 
 ghost use Rattle.std.specs.Prelude.{◌≡◌, ◌+◌, ◌≤◌, length};
 ghost use Rattle.scheduler.specs.Placing.{slate_after};
-ghost use Rattle.record_offer.specs.Offers.{offer_len, answer_of, placing as placing_of, placed_answer, commit_does};
-ghost use Rattle.record_offer.specs.Offers.{told as told_of, ends, turn_reply, SlateTurned};
+ghost use Rattle.record_offer.specs.Offers.{answer_of, placing as placing_of, placed_answer, commit_does};
+ghost use Rattle.record_offer.specs.Offers.{told as told_of, ends, turn_reply, shown, SlateTurned};
 
+mod kinds;
+
+use board::Entered;
+use kinds::OfferKind;
 use placing::{PlaceReply, Placed};
 use record_board::{DeskStepped, step};
-use record_bodies::{body_len, number};
+use record_bodies::number;
 use record_desk::Desk;
 use scheduler::rows::Row;
 
@@ -33,22 +37,8 @@ pub struct OfferTurn {
     pub more: bool,
 }
 
-// How many bytes the body has that begins at `at`, `len` being the end of the input: 0 for an unknown kind or a cut body.
-fn offer_len(kind: u8, bytes: &[u8], at: usize, len: usize) -> usize
-    requires { (at ≤ len) × (len ≤ length bytes.now) }
-    ensures { (result ≡ offer_len kind bytes.now at len) × (at + result ≤ len) }
-{
-    let rest = len - at;
-    if kind == 25 {
-        return if rest < 8 { 0 } else { 8 };
-    }
-    if kind == 26 {
-        return if rest < 20 { 0 } else { 20 };
-    }
-    body_len(kind, bytes, at, len)
-}
-
 // What placing answers.
+#[tactic(auto, unfolding(crate::specs::Offers::answer_of))]
 fn answer_of(r: PlaceReply) -> OfferAnswer
     ensures { result ≡ answer_of r }
 {
@@ -61,17 +51,19 @@ fn answer_of(r: PlaceReply) -> OfferAnswer
 }
 
 // Kind 25: places the order in hand, on the slate.
+#[tactic(auto, unfolding(crate::specs::Offers::placed_answer, crate::specs::Offers::placing))]
 fn place(desk: Desk, slate: &mut [Row], bytes: &[u8], at: usize) -> OfferAnswer
     requires { at + 8 ≤ length bytes.now }
     ensures value { result ≡ placed_answer desk slate.old bytes.now at }
     ensures slate_after { slate.new ≡ slate_after (placing_of desk slate.old bytes.now at) slate.old }
+    ensures on_slate { shown result ≤ length slate.new }
 {
     let ready = number(bytes, at, 8);
-    let r = placing::place_activity(desk.board, desk.activity, ready, slate);
-    answer_of(r)
+    answer_of(placing::place_activity(desk.board, desk.activity, ready, slate))
 }
 
 // Kind 26: commits the first entries of the slate, with the order's category.
+#[tactic(auto, unfolding(crate::specs::Offers::commit_does))]
 fn commit(desk: Desk, slate: &[Row], bytes: &[u8], at: usize) -> DeskStepped
     requires { at + 20 ≤ length bytes.now }
     ensures { result ≡ commit_does desk slate.now bytes.now at }
@@ -79,52 +71,54 @@ fn commit(desk: Desk, slate: &[Row], bytes: &[u8], at: usize) -> DeskStepped
     let count = number(bytes, at, 4) as usize;
     let start = number(bytes, at + 4, 8);
     let end = number(bytes, at + 12, 8);
-    let order = desk.activity;
-    let e = committing::commit(desk.board, slate, count, start, end, order.category);
-    let b = e.board;
-    let mut d = desk;
-    d.board = b;
+    let category = desk.activity.category;
+    let Entered { refusal, board } = committing::commit(
+        desk.board, slate, count, start, end, category,
+    );
     DeskStepped {
-        desk: d,
-        refusal: e.refusal,
+        desk: Desk { board, ..desk },
+        refusal,
     }
 }
 
 // The stream ends here with this answer.
+#[tactic(auto, unfolding(crate::specs::Offers::ends))]
 fn last(desk: Desk, answer: OfferAnswer, at: usize) -> OfferTurn
     ensures { result ≡ ends desk answer at }
 {
     OfferTurn {
-        desk: desk,
-        answer: answer,
-        at: at,
+        desk,
+        answer,
+        at,
         more: false,
     }
 }
 
 // A refusal is told in place of the answer, and 9 ends the stream.
+#[tactic(auto, unfolding(crate::specs::Offers::told))]
 fn told(s: DeskStepped, answer: OfferAnswer, at: usize) -> OfferTurn
     ensures { result ≡ told_of s answer at }
 {
-    let d = s.desk;
-    if s.refusal == 0 {
+    let DeskStepped { desk, refusal } = s;
+    if refusal == 0 {
         return OfferTurn {
-            desk: d,
-            answer: answer,
-            at: at,
+            desk,
+            answer,
+            at,
             more: true,
         };
     }
     OfferTurn {
-        desk: d,
-        answer: OfferAnswer::Refused(s.refusal),
-        at: at,
-        more: s.refusal != 9,
+        desk,
+        answer: OfferAnswer::Refused(refusal),
+        at,
+        more: refusal != 9,
     }
 }
 
 // The record that begins at `at`, `len` being the end of the input: nothing where the input ends here, 9 for an unknown kind or a
 // cut body.
+#[tactic(auto, unfolding(crate::specs::Offers::turn_reply, crate::specs::Offers::slate_reply, crate::specs::Offers::record_does, crate::specs::Offers::told, crate::specs::Offers::ends, crate::specs::Offers::shown))]
 pub fn record(desk: Desk, slate: &mut [Row], bytes: &[u8], at: usize, len: usize) -> OfferTurn
     requires { (at ≤ len) × (len ≤ length bytes.now) }
     ensures value { (result ≡ turn_reply desk slate.old bytes.now at len) × (result.at ≤ len) }
@@ -133,30 +127,28 @@ pub fn record(desk: Desk, slate: &mut [Row], bytes: &[u8], at: usize, len: usize
     if at == len {
         return last(desk, OfferAnswer::Nothing, at);
     }
-    let kind = bytes[at];
-    let n = offer_len(kind, bytes, at + 1, len);
-    if n == 0 {
+    let Ok(kind) = OfferKind::try_from(bytes[at]) else {
         return last(desk, OfferAnswer::Refused(9), at);
-    }
-    if kind == 25 {
-        let answer = place(desk, slate, bytes, at + 1);
-        return OfferTurn {
-            desk: desk,
-            answer: answer,
-            at: at + 1 + n,
-            more: true,
-        };
-    }
-    if kind == 26 {
-        return told(
+    };
+    let Some(n) = kind.body_len(bytes, at + 1, len) else {
+        return last(desk, OfferAnswer::Refused(9), at);
+    };
+    let next = at + 1 + n;
+    match kind {
+        OfferKind::Place => {
+            let answer = place(desk, slate, bytes, at + 1);
+            OfferTurn {
+                desk,
+                answer,
+                at: next,
+                more: true,
+            }
+        }
+        OfferKind::Commit => told(
             commit(desk, slate, bytes, at + 1),
             OfferAnswer::Committed,
-            at + 1 + n,
-        );
+            next,
+        ),
+        OfferKind::Board(kind) => told(step(desk, kind, bytes, at + 1), OfferAnswer::Nothing, next),
     }
-    told(
-        step(desk, kind, bytes, at + 1),
-        OfferAnswer::Nothing,
-        at + 1 + n,
-    )
 }
