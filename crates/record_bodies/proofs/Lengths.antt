@@ -34,6 +34,11 @@ no_board k bs i h l =
     simp (lt-leb k 4 a, ne_eqb k 16 (n 16 (omega arith) (omega arith)), ne_eqb k 17 (n 17 (omega arith) (omega arith)), ne_eqb k 18 (n 18 (omega arith) (omega arith)), ne_eqb k 19 (n 19 (omega arith) (omega arith)), ne_eqb k 20 (n 20 (omega arith) (omega arith)), ne_eqb k 21 (n 21 (omega arith) (omega arith)), ne_eqb k 22 (n 22 (omega arith) (omega arith)), ne_eqb k 23 (n 23 (omega arith) (omega arith)), ne_eqb k 24 (n 24 (omega arith) (omega arith))))
     (lt-or-ge k 5)
 
+-- a kind without a body has none anywhere
+pub no-body : (k : ℕ) → ((bs : List ℕ) (i : ℕ) → len_of k bs i ≡ 0) → (bs : List ℕ) (i n : ℕ) → body_len k bs i n ≡ 0
+unfolding body_len whole
+no-body k z bs i n = rw (z bs i, le-ltb (n - i) 0 (omega arith)) refl
+
 -- the length that is read of a body
 pub body-read : (k : ℕ) (bs : List ℕ) (i n len : ℕ) (r : Option ℕ) → i ≤ n → len_of k bs i ≡ len → 0 < len
     → MatchOption r (n - i < len) (λ m. (m ≡ len) × (len ≤ n - i)) → BodyOf k bs i n r

@@ -1,2 +1,3 @@
 -- What the asks of the runs beside the Rust answer.
 pub mod Asks
+pub mod Kinds

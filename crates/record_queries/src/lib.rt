@@ -6,13 +6,17 @@ ghost use Rattle.std.specs.Prelude.{◌≡◌, ◌+◌, ◌<◌, ◌≤◌, true
 ghost use Rattle.activity.specs.Check.{reply_of};
 ghost use Rattle.board.specs.Valid.{last_right};
 ghost use Rattle.record_queries.specs.Asks.{held_at, last_of, duration_line, setup_reply, transport_reply, serves_reply};
-ghost use Rattle.record_queries.specs.Asks.{ask_len, ask_reply, told as told_of, ends, run_len, turn_reply};
+ghost use Rattle.record_queries.specs.Asks.{ask_len, ask_reply, told as told_of, ends, turn_reply};
+ghost use Rattle.record_queries.specs.Kinds.{ask_number};
+
+mod kinds;
 
 use activity::{DurationAnswer, ResourceRequirement};
 use board::{Board, LastCategory};
 use calendar::limits::LONGEST_DURATION;
+use kinds::{Ask, QueryKind};
 use record_board::{DeskStepped, step};
-use record_bodies::{body_len, number, wide};
+use record_bodies::number;
 use record_desk::Desk;
 
 // What a record answers; `Nothing` prints nothing.
@@ -27,6 +31,7 @@ pub enum QueryAnswer {
     Refused(u8),
 }
 
+#[tactic(auto, unfolding(crate::specs::Asks::duration_line, activity::specs::Check::reply_of))]
 fn lasting(a: DurationAnswer) -> QueryAnswer
     ensures { result ≡ duration_line (reply_of a) }
 {
@@ -103,58 +108,42 @@ fn held_at(bytes: &[u8], at: usize) -> [u8; 8]
     requires { at + 8 ≤ length bytes.now }
     ensures { result ≡ held_at bytes.now at }
 {
-    [
-        bytes[at],
-        bytes[at + 1],
-        bytes[at + 2],
-        bytes[at + 3],
-        bytes[at + 4],
-        bytes[at + 5],
-        bytes[at + 6],
-        bytes[at + 7],
-    ]
-}
-
-// How many bytes the body of an ask has, 0 for another kind.
-fn ask_len(kind: u8) -> usize
-    ensures { result ≡ ask_len kind }
-{
-    match kind {
-        40 => 9,
-        41 => 11,
-        42 => 3,
-        43 => 12,
-        _ => 0,
-    }
+    let mut held = [0; 8];
+    held.copy_from_slice(&bytes[at..at + 8]);
+    held
 }
 
 // What an ask answers, its body beginning at `at`.
-fn ask(desk: Desk, kind: u8, bytes: &[u8], at: usize) -> QueryAnswer
-    requires { (40 ≤ kind) × (kind ≤ 43) × (at + ask_len kind ≤ length bytes.now) }
-    ensures { result ≡ ask_reply desk kind bytes.now at }
+#[tactic(auto, unfolding(crate::specs::Asks::ask_reply, crate::specs::Asks::ask_len))]
+fn ask(desk: Desk, ask: Ask, bytes: &[u8], at: usize) -> QueryAnswer
+    requires { at + ask_len (ask_number ask) ≤ length bytes.now }
+    ensures { result ≡ ask_reply desk (ask_number ask) bytes.now at }
 {
-    if kind == 40 {
-        let held = held_at(bytes, at + 1);
-        return lasting(activity_durations::duration_on(desk.activity, held, wide(bytes[at])));
+    match ask {
+        Ask::Durations => {
+            let held = held_at(bytes, at + 1);
+            let count = usize::from(bytes[at]);
+            lasting(activity_durations::duration_on(desk.activity, held, count))
+        }
+        Ask::Setup => {
+            let own = number(bytes, at + 3, 8);
+            setup(desk.board, bytes[at], bytes[at + 1], bytes[at + 2], own)
+        }
+        Ask::Transport => {
+            let origins = number(bytes, at, 2) as u16;
+            transport(desk.board, origins, bytes[at + 2])
+        }
+        Ask::Serving => {
+            let requirement = ResourceRequirement {
+                kind: bytes[at],
+                candidates: number(bytes, at + 1, 2) as u16,
+                skills: number(bytes, at + 3, 8),
+                quantity: 1,
+                usage: 1,
+            };
+            serves(desk.board, requirement, bytes[at + 11])
+        }
     }
-    if kind == 41 {
-        let own = number(bytes, at + 3, 8);
-        return setup(desk.board, bytes[at], bytes[at + 1], bytes[at + 2], own);
-    }
-    if kind == 42 {
-        let origins = number(bytes, at, 2) as u16;
-        return transport(desk.board, origins, bytes[at + 2]);
-    }
-    let candidates = number(bytes, at + 1, 2) as u16;
-    let skills = number(bytes, at + 3, 8);
-    let requirement = ResourceRequirement {
-        kind: bytes[at],
-        candidates: candidates,
-        skills: skills,
-        quantity: 1,
-        usage: 1,
-    };
-    serves(desk.board, requirement, bytes[at + 11])
 }
 
 // A record read from a run of bytes: what is in hand, what it answered, where the next one begins, and whether to go on.
@@ -167,55 +156,43 @@ pub struct QueryTurn {
 }
 
 // The stream ends here with this answer.
+#[tactic(auto, unfolding(crate::specs::Asks::ends))]
 fn last(desk: Desk, answer: QueryAnswer, at: usize) -> QueryTurn
     ensures { result ≡ ends desk answer at }
 {
     QueryTurn {
-        desk: desk,
-        answer: answer,
-        at: at,
+        desk,
+        answer,
+        at,
         more: false,
     }
 }
 
-// How many bytes the body has of a record or an ask: 0 for an unknown kind or a cut body.
-fn run_len(kind: u8, bytes: &[u8], at: usize, len: usize) -> usize
-    requires { (at ≤ len) × (len ≤ length bytes.now) }
-    ensures { (result ≡ run_len kind bytes.now at len) × (at + result ≤ len) }
-{
-    let n = ask_len(kind);
-    if n == 0 {
-        return body_len(kind, bytes, at, len);
-    }
-    if len - at < n {
-        return 0;
-    }
-    n
-}
-
 // A refusal is told, and 9 ends the stream.
+#[tactic(auto, unfolding(crate::specs::Asks::told))]
 fn told(s: DeskStepped, at: usize) -> QueryTurn
     ensures { result ≡ told_of s at }
 {
-    let d = s.desk;
-    if s.refusal == 0 {
+    let DeskStepped { desk, refusal } = s;
+    if refusal == 0 {
         return QueryTurn {
-            desk: d,
+            desk,
             answer: QueryAnswer::Nothing,
-            at: at,
+            at,
             more: true,
         };
     }
     QueryTurn {
-        desk: d,
-        answer: QueryAnswer::Refused(s.refusal),
-        at: at,
-        more: s.refusal != 9,
+        desk,
+        answer: QueryAnswer::Refused(refusal),
+        at,
+        more: refusal != 9,
     }
 }
 
 // The record that begins at `at`, `len` being the end of the input: nothing where the input ends here, 9 for an unknown kind or a
 // cut body.
+#[tactic(auto, unfolding(crate::specs::Asks::turn_reply, crate::specs::Asks::told, crate::specs::Asks::ends))]
 pub fn record(desk: Desk, bytes: &[u8], at: usize, len: usize) -> QueryTurn
     requires { (at ≤ len) × (len ≤ length bytes.now) }
     ensures { (result ≡ turn_reply desk bytes.now at len) × (result.at ≤ len) }
@@ -223,19 +200,23 @@ pub fn record(desk: Desk, bytes: &[u8], at: usize, len: usize) -> QueryTurn
     if at == len {
         return last(desk, QueryAnswer::Nothing, at);
     }
-    let kind = bytes[at];
-    let n = run_len(kind, bytes, at + 1, len);
-    if n == 0 {
+    let Ok(kind) = QueryKind::try_from(bytes[at]) else {
         return last(desk, QueryAnswer::Refused(9), at);
-    }
-    if kind < 40 {
-        return told(step(desk, kind, bytes, at + 1), at + 1 + n);
-    }
-    let answer = ask(desk, kind, bytes, at + 1);
-    QueryTurn {
-        desk: desk,
-        answer: answer,
-        at: at + 1 + n,
-        more: true,
+    };
+    let Some(n) = kind.body_len(bytes, at + 1, len) else {
+        return last(desk, QueryAnswer::Refused(9), at);
+    };
+    let next = at + 1 + n;
+    match kind {
+        QueryKind::Board(kind) => told(step(desk, kind, bytes, at + 1), next),
+        QueryKind::Ask(kind) => {
+            let answer = ask(desk, kind, bytes, at + 1);
+            QueryTurn {
+                desk,
+                answer,
+                at: next,
+                more: true,
+            }
+        }
     }
 }

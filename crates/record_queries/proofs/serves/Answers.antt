@@ -1,5 +1,4 @@
 -- `record_queries::serves` meets its contract.
-use borrow.Author.Rules.{rules}
 use native.Mathlib.Omega.{arith}
 use mathlib.Core.Path.{sym, ◌∙◌}
 use Rattle.record_queries.proofs.Asking.{located, serves-place, serves-yes, serves-no}

@@ -1,5 +1,4 @@
 -- `record_queries::setup` meets its contract.
-use borrow.Author.Rules.{rules}
 use native.Mathlib.Omega.{arith}
 use Rattle.record_queries.proofs.Asking.{located, setup-place, setup-category, setup-own, setup-is}
 use Rattle.record_queries.proofs.setup.Goals as goal

@@ -1,5 +1,4 @@
 -- `record_queries::transport` meets its contract.
-use borrow.Author.Rules.{rules}
 use native.Mathlib.Omega.{arith}
 use Rattle.record_queries.proofs.Asking.{located, transport-place, transport-to}
 use Rattle.record_queries.proofs.transport.Goals as goal
