@@ -1,5 +1,5 @@
 -- 01, the replies of 'Placing': the checks of an order, and the reply of asking for its durations.
-use Rattle.std.specs.Prelude.{ℕ, ◌+◌, Bool, true, cond, not, ◌&&◌, ◌||◌, leb, List, [], ◌∷◌, take, nat_le, nat_lt}
+use Rattle.std.specs.Prelude.{ℕ, ◌+◌, Bool, true, cond, not, ◌&&◌, ◌||◌, leb, List, [], ◌∷◌, take, nat_le, nat_lt, Option, Some, None, Result, Ok, Err}
 use Rattle.calendar.specs.Refusals.{refused_or}
 use Rattle.cells.specs.Every.{every}
 use Rattle.calendar.specs.Limits.{last_instant, longest_duration, most_units}
@@ -8,18 +8,16 @@ use Rattle.activity.specs.declared.ActivityDuration.{ActivityDuration}
 use Rattle.activity.specs.declared.ResourceTiming.{ResourceTiming}
 use Rattle.activity.specs.declared.ResourceTiming.TheVariants.{Nothing, Speed, Duration}
 use Rattle.activity.specs.declared.ResourceRequirement.{ResourceRequirement}
-use Rattle.activity.specs.declared.Release.{Release}
-use Rattle.activity.specs.declared.Release.TheVariants.{Absent, At}
 use Rattle.activity.specs.declared.Activity.{Activity}
-use Rattle.activity.specs.declared.DurationAnswer.{DurationAnswer}
-use Rattle.activity.specs.declared.DurationAnswer.TheVariants.{Lasts, Refused}
+use Rattle.calendar.specs.declared.refusal.Refusal.{Refusal}
+use Rattle.calendar.specs.Replies.{number_of}
 use Rattle.activity_speeds.specs.Speeds.{is_speed}
 use Rattle.activity.specs.Durations.{duration_on}
 
 -- an instant is 0 to 2^42; an absent release is not checked
-unfoldable pub release_right : Release → Bool
-release_right Absent = true
-release_right (At release) = nat_le release last_instant
+unfoldable pub release_right : Option ℕ → Bool
+release_right None = true
+release_right (Some release) = nat_le release last_instant
 
 -- setup, process, teardown: 0 to 2^36 each
 unfoldable pub short : ActivityDuration → Bool
@@ -64,7 +62,7 @@ requirements_of a = take a.len a.requirements
 unfoldable pub times_right : Activity → ℕ → Bool
 times_right a ready =
     nat_le ready last_instant
-    && (release_right a.release && (short a.duration && every (λ t. timing_short t.timing) a.timings))
+    && (release_right a.release && (short a.duration && every timing_short a.timings))
 
 -- 5 category; 1 ready, release or a duration; 6 requirements over 4, a quantity under 1 or total over 8; 3 usage; 8 speed; 0 for none
 unfoldable pub activity_refusal : Activity → ℕ → ℕ
@@ -73,7 +71,7 @@ activity_refusal a ready =
     (cond (not (times_right a ready)) 1
     (cond (nat_lt 4 a.len || not (quantities_right (requirements_of a))) 6
     (cond (not (every usage_right (requirements_of a))) 3
-    (cond (not (every (λ t. timing_speed t.timing) a.timings)) 8 0))))
+    (cond (not (every timing_speed a.timings)) 8 0))))
 
 -- 15 before all else: an own calendar that breaks the rules
 unfoldable pub check_reply : Activity → ℕ → ℕ
@@ -88,9 +86,9 @@ pub data DurationReply : Type 0 where
   lasts : ActivityDuration → DurationReply
   refused : ℕ → DurationReply
 
-unfoldable pub reply_of : DurationAnswer → DurationReply
-reply_of (Lasts d) = lasts d
-reply_of (Refused n) = refused n
+unfoldable pub reply_of : Result ActivityDuration Refusal → DurationReply
+reply_of (Ok d) = lasts d
+reply_of (Err e) = refused (number_of e)
 
 -- 15 before all else; 5 the numbers held; then the order's own refusals, at ready 0
 unfoldable pub duration_reply : Activity → List ℕ → ℕ → DurationReply

@@ -6,19 +6,18 @@ use Rattle.std.specs.Float.Ieee.{mul}
 use Rattle.activity.specs.declared.ActivityDuration.{ActivityDuration}
 use Rattle.activity.specs.declared.ResourceTiming.{ResourceTiming}
 use Rattle.activity.specs.declared.ResourceTiming.TheVariants.{Nothing, Speed, Duration}
-use Rattle.activity.specs.declared.Timed.{Timed}
 use Rattle.activity_speeds.specs.Speeds.{one, process_at}
 
 -- what stands past the end of a list of timings
-abbrev pub untimed : Timed
-untimed = record { timing = Nothing }
+abbrev pub untimed : ResourceTiming
+untimed = Nothing
 
 -- the timing of a resource, by its number
-abbrev pub timing_of : List Timed → ℕ → ResourceTiming
-timing_of timings number = (slice_index_or timings number untimed).timing
+abbrev pub timing_of : List ResourceTiming → ℕ → ResourceTiming
+timing_of timings number = slice_index_or timings number untimed
 
 -- the timings of the resources held; a number held twice counts twice
-abbrev pub held_timings : List Timed → List ℕ → List ResourceTiming
+abbrev pub held_timings : List ResourceTiming → List ℕ → List ResourceTiming
 held_timings timings held = map (timing_of timings) held
 
 abbrev pub total : ActivityDuration → ℕ
@@ -56,5 +55,5 @@ settled base speed (owned d) = d
 settled base speed nobody = record { setup = base.setup; process = process_at base.process speed; teardown = base.teardown }
 
 -- the speeds multiply from 1.0
-unfoldable pub duration_on : ActivityDuration → List Timed → List ℕ → ActivityDuration
+unfoldable pub duration_on : ActivityDuration → List ResourceTiming → List ℕ → ActivityDuration
 duration_on base timings held = settled base (product one (held_timings timings held)) (greatest nobody (held_timings timings held))

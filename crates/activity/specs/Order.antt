@@ -1,17 +1,15 @@
 -- An order as it is made, and with one thing changed.
-use Rattle.std.specs.Prelude.{ℕ, ◌+◌, Bool, cond, List, replicate, nat_lt, slice_set}
+use Rattle.std.specs.Prelude.{ℕ, ◌+◌, Bool, cond, List, replicate, nat_lt, slice_set, Option}
 use Rattle.calendar.specs.declared.Calendar.{Calendar}
 use Rattle.activity.specs.declared.ActivityDuration.{ActivityDuration}
 use Rattle.activity.specs.declared.ResourceTiming.{ResourceTiming}
-use Rattle.activity.specs.declared.Timed.{Timed}
 use Rattle.activity.specs.declared.ResourceRequirement.{ResourceRequirement}
-use Rattle.activity.specs.declared.Release.{Release}
 use Rattle.activity.specs.declared.Activity.{Activity}
 use Rattle.activity.specs.Durations.{untimed}
 use Rattle.activity.specs.Check.{no_requirement}
 
 -- an order with no requirement and no timing
-unfoldable pub order_with : ℕ → ActivityDuration → Bool → Release → Calendar → ℕ → Activity
+unfoldable pub order_with : ℕ → ActivityDuration → Bool → Option ℕ → Calendar → ℕ → Activity
 order_with category duration resumable release calendar origins = record {
   category = category;
   duration = duration;
@@ -25,7 +23,7 @@ order_with category duration resumable release calendar origins = record {
 }
 
 -- the order with another release
-abbrev pub with_release : Activity → Release → Activity
+abbrev pub with_release : Activity → Option ℕ → Activity
 with_release a release = record {
   category = a.category;
   duration = a.duration;
@@ -53,7 +51,7 @@ with_requirements a qs n = record {
 }
 
 -- the order with other timings
-abbrev pub with_timings : Activity → List Timed → Activity
+abbrev pub with_timings : Activity → List ResourceTiming → Activity
 with_timings a ts = record {
   category = a.category;
   duration = a.duration;
@@ -75,4 +73,4 @@ with_requirement a q =
 
 -- the timing on the resource of a number
 abbrev pub with_timing : Activity → ℕ → ResourceTiming → Activity
-with_timing a number timing = with_timings a (slice_set a.timings number (record { timing = timing }))
+with_timing a number timing = with_timings a (slice_set a.timings number timing)

@@ -1,9 +1,7 @@
 -- 01, 'Placing': from when an order may start.
-use Rattle.std.specs.Prelude.{ℕ, max}
-use Rattle.activity.specs.declared.Release.{Release}
-use Rattle.activity.specs.declared.Release.TheVariants.{Absent, At}
+use Rattle.std.specs.Prelude.{ℕ, max, Option, Some, None}
 
 -- the later of ready and release (release may be absent)
-unfoldable pub ready_of : Release → ℕ → ℕ
-ready_of Absent ready = ready
-ready_of (At release) ready = max ready release
+unfoldable pub ready_of : Option ℕ → ℕ → ℕ
+ready_of None ready = ready
+ready_of (Some release) ready = max ready release

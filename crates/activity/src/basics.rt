@@ -2,18 +2,18 @@
 // transport' and 'Placing'): for the crates above.
 ghost use Rattle.std.specs.Prelude.{◌≡◌, ℕ, ◌<◌, ◌≤◌, take, slice_index};
 ghost use Rattle.activity.specs.Durations.{duration_on};
-ghost use Rattle.activity.specs.Serving.{serves as serves_of};
+ghost use Rattle.activity.specs.Serving.{candidate, serves as serves_of};
 ghost use Rattle.activity.specs.Ready.{ready_of};
 ghost use Rattle.activity.specs.Lawful.{Lawful};
 
-use crate::timing::{Fixed, greater, times};
-use crate::{ActivityDuration, Release, ResourceRequirement, Timed};
+use crate::timing::{greater, times};
+use crate::{ActivityDuration, ResourceRequirement, ResourceTiming};
 use activity_speeds::process_at;
 
 // The durations over the first `count` resources held, in holding order (the Rust's `timed_duration`).
 pub fn duration_on(
     base: ActivityDuration,
-    timings: [Timed; 16],
+    timings: [ResourceTiming; 16],
     held: [u8; 8],
     count: usize,
 ) -> ActivityDuration
@@ -23,23 +23,31 @@ pub fn duration_on(
     ensures { result ≡ duration_on base timings (take count held) }
 {
     let mut speed = 1.0;
-    let mut fixed = Fixed::Unset;
-    let mut i: usize = 0;
-    while i < count {
-        let number = held[i] as usize;
-        let timed = timings[number];
-        let timing = timed.timing;
+    let mut fixed = None;
+    for number in &held[..count] {
+        let timing = timings[*number as usize];
         speed = times(speed, timing);
         fixed = greater(fixed, timing);
-        i += 1;
     }
     match fixed {
-        Fixed::Own(d) => d,
-        Fixed::Unset => ActivityDuration {
-            setup: base.setup,
+        Some(d) => d,
+        None => ActivityDuration {
             process: process_at(base.process, speed),
-            teardown: base.teardown,
+            ..base
         },
+    }
+}
+
+// Whether the requirement names the resource, or, naming none, its type.
+#[tactic(auto, unfolding(crate::specs::Serving::candidate))]
+fn is_candidate(requirement: ResourceRequirement, number: u8, kind: u8) -> bool
+    requires { number < 16 }
+    ensures { result ≡ candidate requirement number kind }
+{
+    if requirement.candidates == 0 {
+        kind == requirement.kind
+    } else {
+        (requirement.candidates >> number) & 1 == 1
     }
 }
 
@@ -48,21 +56,16 @@ pub fn serves(requirement: ResourceRequirement, number: u8, kind: u8, skills: u6
     requires { number < 16 }
     ensures { result ≡ serves_of requirement number kind skills }
 {
-    if requirement.skills & skills != requirement.skills {
-        return false;
-    }
-    if requirement.candidates == 0 {
-        return kind == requirement.kind;
-    }
-    (requirement.candidates >> number) & 1 == 1
+    is_candidate(requirement, number, kind) && requirement.skills & skills == requirement.skills
 }
 
 // The later of ready and release.
-pub fn ready_of(release: Release, ready: u64) -> u64
+#[tactic(auto, unfolding(crate::specs::Ready::ready_of))]
+pub fn ready_of(release: Option<u64>, ready: u64) -> u64
     ensures { result ≡ ready_of release ready }
 {
     match release {
-        Release::Absent => ready,
-        Release::At(from) => if from > ready { from } else { ready },
+        None => ready,
+        Some(from) => from.max(ready),
     }
 }

@@ -1,16 +1,17 @@
-// An order as it is made, and with one thing changed. (A field that is no enum and no array's cell is changed by assignment.)
+// An order as it is made, and with one thing changed.
 ghost use Rattle.std.specs.Prelude.{◌≡◌, ◌≤◌};
 ghost use Rattle.activity.specs.Order.{order_with, with_release, with_requirement, with_timing};
 
-use crate::{Activity, ActivityDuration, Release, ResourceRequirement, ResourceTiming, Timed};
+use crate::{Activity, ActivityDuration, ResourceRequirement, ResourceTiming};
 use calendar::Calendar;
 
 // An order with no requirement and no timing.
+#[tactic(auto, unfolding(crate::specs::Order::order_with))]
 pub fn order_with(
     category: u8,
     duration: ActivityDuration,
     resumable: bool,
-    release: Release,
+    release: Option<u64>,
     calendar: Calendar,
     origins: u16,
 ) -> Activity
@@ -23,44 +24,28 @@ pub fn order_with(
         quantity: 0,
         usage: 0,
     };
-    let untimed = Timed {
-        timing: ResourceTiming::Nothing,
-    };
     Activity {
-        category: category,
-        duration: duration,
-        resumable: resumable,
-        release: release,
-        calendar: calendar,
-        origins: origins,
+        category,
+        duration,
+        resumable,
+        release,
+        calendar,
+        origins,
         requirements: [none; 4],
         len: 0,
-        timings: [untimed; 16],
+        timings: [ResourceTiming::Nothing; 16],
     }
 }
 
 // The order with another release.
-pub fn with_release(a: Activity, release: Release) -> Activity
+pub fn with_release(a: Activity, release: Option<u64>) -> Activity
     ensures { result ≡ with_release a release }
 {
-    let duration = a.duration;
-    let calendar = a.calendar;
-    let requirements = a.requirements;
-    let timings = a.timings;
-    Activity {
-        category: a.category,
-        duration: duration,
-        resumable: a.resumable,
-        release: release,
-        calendar: calendar,
-        origins: a.origins,
-        requirements: requirements,
-        len: a.len,
-        timings: timings,
-    }
+    Activity { release, ..a }
 }
 
 // One requirement more. Four are kept; of a fifth only the count tells, and 5 stands for any count above.
+#[tactic(auto, unfolding(crate::specs::Order::with_requirement))]
 pub fn with_requirement(activity: Activity, q: ResourceRequirement) -> Activity
     ensures { result ≡ with_requirement activity q }
 {
@@ -70,10 +55,9 @@ pub fn with_requirement(activity: Activity, q: ResourceRequirement) -> Activity
     }
     let mut a = activity;
     a.len = n + 1;
-    if n == 4 {
-        return a;
+    if n < 4 {
+        a.requirements[n] = q;
     }
-    a.requirements[n] = q;
     a
 }
 
@@ -83,6 +67,6 @@ pub fn with_timing(activity: Activity, number: u8, timing: ResourceTiming) -> Ac
     ensures { result ≡ with_timing activity number timing }
 {
     let mut a = activity;
-    a.timings[number as usize] = Timed { timing: timing };
+    a.timings[number as usize] = timing;
     a
 }

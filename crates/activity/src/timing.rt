@@ -5,21 +5,13 @@ ghost use Rattle.activity.specs.Lawful.{Short, LawfulTiming, LawfulLead, leading
 
 use crate::{ActivityDuration, ResourceTiming};
 
-// The own durations that lead so far (the Rust's `fixed`).
-#[derive(Clone, Copy)]
-pub enum Fixed {
-    Unset,
-    Own(ActivityDuration),
-}
-
 // The product so far, with one timing more.
 pub fn times(product: f64, timing: ResourceTiming) -> f64
     ensures { result ≡ times_of product timing }
 {
     match timing {
-        ResourceTiming::Nothing => product,
         ResourceTiming::Speed(s) => product * s,
-        ResourceTiming::Duration(_) => product,
+        ResourceTiming::Nothing | ResourceTiming::Duration(_) => product,
     }
 }
 
@@ -31,22 +23,15 @@ fn total(d: ActivityDuration) -> u64
     d.setup + d.process + d.teardown
 }
 
-// The own durations that lead, with one timing more: only a greater total takes their place.
-pub fn greater(fixed: Fixed, timing: ResourceTiming) -> Fixed
+// The own durations that lead (the Rust's `fixed`), with one timing more: only a greater total takes their place.
+pub fn greater(fixed: Option<ActivityDuration>, timing: ResourceTiming) -> Option<ActivityDuration>
     requires lawful_lead { LawfulLead (leading_of fixed) }
     requires lawful_timing { LawfulTiming timing }
     ensures { leading_of result ≡ greater_of (leading_of fixed) timing }
 {
-    match timing {
-        ResourceTiming::Nothing => fixed,
-        ResourceTiming::Speed(_) => fixed,
-        ResourceTiming::Duration(d) => match fixed {
-            Fixed::Unset => Fixed::Own(d),
-            Fixed::Own(f) => if total(f) < total(d) {
-                Fixed::Own(d)
-            } else {
-                Fixed::Own(f)
-            },
-        },
+    match (fixed, timing) {
+        (Some(f), ResourceTiming::Duration(d)) if total(f) < total(d) => Some(d),
+        (None, ResourceTiming::Duration(d)) => Some(d),
+        _ => fixed,
     }
 }

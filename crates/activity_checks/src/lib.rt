@@ -2,62 +2,61 @@
 #![tactic(auto)]
 
 use activity::Activity;
+use calendar::Refusal;
 use calendar::limits::LAST_INSTANT;
 
 mod range;
 mod speed;
 
 ghost use Rattle.std.specs.Prelude.{◌≡◌};
-ghost use Rattle.activity.specs.Check.{activity_refusal, check_reply};
+ghost use Rattle.calendar.specs.Replies.{refused};
+ghost use Rattle.activity.specs.Check.{times_right, activity_refusal, check_reply};
 
 use range::{is_instant, is_short, quantities_right, timings_short, usages_right};
 use speed::speeds_right;
 
-// The number with which the order is refused, 0 for none: 5 category, 1 ready, release or a duration, 6 requirements or their
-// quantities, 3 usage, 8 a speed. Each over the whole order before the next.
-pub fn refusal(activity: Activity, ready: u64) -> u8
-    ensures { result ≡ activity_refusal activity ready }
+// Ready, release and every duration of the order are in range.
+#[tactic(auto, unfolding(activity::specs::Check::times_right))]
+fn times_right(activity: Activity, ready: u64) -> bool
+    ensures { result ≡ times_right activity ready }
 {
-    if activity.category > 15 {
-        return 5;
-    }
-    if ready > LAST_INSTANT {
-        return 1;
-    }
-    let release = activity.release;
-    if !is_instant(release) {
-        return 1;
-    }
-    if !is_short(activity.duration) {
-        return 1;
-    }
-    let timings = activity.timings;
-    if !timings_short(timings) {
-        return 1;
-    }
-    let len = activity.len;
-    if len > 4 {
-        return 6;
-    }
-    let requirements = activity.requirements;
-    if !quantities_right(requirements, len) {
-        return 6;
-    }
-    if !usages_right(requirements, len) {
-        return 3;
-    }
-    if !speeds_right(timings) {
-        return 8;
-    }
-    0
+    ready <= LAST_INSTANT
+        && is_instant(activity.release)
+        && is_short(activity.duration)
+        && timings_short(activity.timings)
 }
 
-// The number with which an order at this ready is refused, 0 for none: 15 its own calendar breaks the rules, then as `refusal`.
-pub fn check(activity: Activity, ready: u64) -> u8
-    ensures { result ≡ check_reply activity ready }
+// Refuses an order: a number for its category, out of range for ready, release or a duration, requirements or their quantities, units
+// for a usage, a speed. Each over the whole order before the next.
+#[tactic(auto, unfolding(activity::specs::Check::activity_refusal))]
+pub fn refusal(activity: Activity, ready: u64) -> Result<(), Refusal>
+    ensures { refused result ≡ activity_refusal activity ready }
+{
+    if activity.category > 15 {
+        return Err(Refusal::Number);
+    }
+    if !times_right(activity, ready) {
+        return Err(Refusal::OutOfRange);
+    }
+    if activity.len > 4 || !quantities_right(activity.requirements, activity.len) {
+        return Err(Refusal::Requirements);
+    }
+    if !usages_right(activity.requirements, activity.len) {
+        return Err(Refusal::Units);
+    }
+    if !speeds_right(activity.timings) {
+        return Err(Refusal::Speed);
+    }
+    Ok(())
+}
+
+// Refuses an order at this ready: invalid where its own calendar breaks the rules, then as `refusal`.
+#[tactic(auto, unfolding(activity::specs::Check::check_reply))]
+pub fn check(activity: Activity, ready: u64) -> Result<(), Refusal>
+    ensures { refused result ≡ check_reply activity ready }
 {
     if !calendar::is_valid(activity.calendar) {
-        return 15;
+        return Err(Refusal::Invalid);
     }
     refusal(activity, ready)
 }

@@ -3,7 +3,7 @@ ghost use Rattle.std.specs.Prelude.{◌≡◌};
 ghost use Rattle.cells.specs.Every.{every};
 ghost use Rattle.activity.specs.Check.{timing_speed};
 
-use activity::{ResourceTiming, Timed};
+use activity::ResourceTiming;
 use activity_speeds::is_speed;
 
 // The speed, where the timing has one, is taken.
@@ -11,24 +11,14 @@ fn timing_speed(timing: ResourceTiming) -> bool
     ensures { result ≡ timing_speed timing }
 {
     match timing {
-        ResourceTiming::Nothing => true,
         ResourceTiming::Speed(s) => is_speed(s),
-        ResourceTiming::Duration(_) => true,
+        ResourceTiming::Nothing | ResourceTiming::Duration(_) => true,
     }
 }
 
 // The speeds of all timings are taken.
-pub fn speeds_right(timings: [Timed; 16]) -> bool
-    ensures { result ≡ every (λ t. timing_speed t.timing) timings }
+pub fn speeds_right(timings: [ResourceTiming; 16]) -> bool
+    ensures { result ≡ every timing_speed timings }
 {
-    let mut i: usize = 0;
-    while i < 16 {
-        let timed = timings[i];
-        let timing = timed.timing;
-        if !timing_speed(timing) {
-            return false;
-        }
-        i += 1;
-    }
-    true
+    timings.iter().all(|t| timing_speed(*t))
 }

@@ -5,41 +5,32 @@
 ghost use Rattle.std.specs.Prelude.{◌≡◌};
 ghost use Rattle.activity.specs.Check.{held_right, reply_of, duration_reply};
 
-use activity::{Activity, DurationAnswer};
+use activity::{Activity, ActivityDuration};
+use calendar::Refusal;
 
 // At most eight numbers are held, each of a resource.
+#[tactic(auto, unfolding(activity::specs::Check::held_right))]
 fn held_right(held: [u8; 8], count: usize) -> bool
     ensures { result ≡ held_right held count }
 {
-    if count > 8 {
-        return false;
-    }
-    let mut i: usize = 0;
-    while i < count {
-        if held[i] > 15 {
-            return false;
-        }
-        i += 1;
-    }
-    true
+    count <= 8 && held[..count].iter().all(|n| *n <= 15)
 }
 
-// The order's durations over the first `count` resources held, or a refusal: 15 its calendar, 5 the numbers held, then as
-// `refusal` at ready 0.
-pub fn duration_on(activity: Activity, held: [u8; 8], count: usize) -> DurationAnswer
+// The order's durations over the first `count` resources held, or refuses: its calendar, a number held, then as
+// `activity_checks::refusal` at ready 0.
+pub fn duration_on(
+    activity: Activity,
+    held: [u8; 8],
+    count: usize,
+) -> Result<ActivityDuration, Refusal>
     ensures { reply_of result ≡ duration_reply activity held count }
 {
     if !calendar::is_valid(activity.calendar) {
-        return DurationAnswer::Refused(15);
+        return Err(Refusal::Invalid);
     }
     if !held_right(held, count) {
-        return DurationAnswer::Refused(5);
+        return Err(Refusal::Number);
     }
-    let n = activity_checks::refusal(activity, 0);
-    if n != 0 {
-        return DurationAnswer::Refused(n);
-    }
-    let base = activity.duration;
-    let timings = activity.timings;
-    DurationAnswer::Lasts(activity::basics::duration_on(base, timings, held, count))
+    activity_checks::refusal(activity, 0)?;
+    Ok(activity::basics::duration_on(activity.duration, activity.timings, held, count))
 }

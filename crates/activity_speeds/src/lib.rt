@@ -13,7 +13,7 @@ const LEAD: u64 = 4503599627370496;
 pub fn is_speed(s: f64) -> bool
     ensures { result ≡ is_speed s }
 {
-    if s >= 0.25 { s <= 4.0 } else { false }
+    s >= 0.25 && s <= 4.0
 }
 
 // The nearest whole number to x, a tie away from zero: the digits of x, cut where its exponent says, with a half added first.

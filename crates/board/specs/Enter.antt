@@ -9,8 +9,8 @@ use Rattle.timeline.specs.Diary.{blank_diary}
 use Rattle.board.specs.declared.TransitionMatrix.{TransitionMatrix}
 use Rattle.board.specs.declared.Resource.{Resource}
 use Rattle.board.specs.declared.Board.{Board}
-use Rattle.board.specs.declared.Entered.{Entered}
-use Rattle.board.specs.declared.Looked.{Looked}
+use Rattle.board.specs.Replies.{Entered}
+use Rattle.board.specs.Replies.{Looked}
 use Rattle.board.specs.Resources.{blank_resource, new_resource, with_timeline, with_matrix, resource_at, lookup, on_board}
 use Rattle.board.specs.Valid.{duration_right, entry_right, valid}
 

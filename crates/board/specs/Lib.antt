@@ -5,6 +5,7 @@ pub mod Setups
 pub mod Valid
 pub mod Transport
 pub mod Places
+pub mod Replies
 pub mod Enter
 -- What the definitions amount to, and the laws behind it.
 pub mod Theorems

@@ -1,11 +1,9 @@
 -- The board paragraph of 'Placing': a resource, the resources in board order, and where a resource number stands among them.
-use Rattle.std.specs.Prelude.{ℕ, ◌-◌, Bool, false, List, [], ◌++◌, length, get_or, take, replicate, eqb, pos}
+use Rattle.std.specs.Prelude.{ℕ, ◌-◌, Bool, false, List, [], ◌++◌, length, get_or, take, replicate, eqb, pos, Option, None}
 use Rattle.calendar.specs.Search.{Found, least_from, is_at}
 use Rattle.timeline.specs.declared.ResourceTimeline.{ResourceTimeline}
 use Rattle.timeline.specs.Diary.{blank_diary, no_diary}
 use Rattle.board.specs.declared.TransitionMatrix.{TransitionMatrix}
-use Rattle.board.specs.declared.LastCategory.{LastCategory}
-use Rattle.board.specs.declared.LastCategory.TheVariants.{Nothing}
 use Rattle.board.specs.declared.Resource.{Resource}
 use Rattle.board.specs.declared.Board.{Board}
 
@@ -32,7 +30,7 @@ new_resource number kind skills companions t = record {
   count = length companions;
   timeline = t;
   matrix = blank_matrix;
-  last = Nothing;
+  last = None;
 }
 
 -- 0 throughout: a cell past the length
@@ -44,7 +42,7 @@ abbrev no_matrix : TransitionMatrix
 no_matrix = record { present = false; default = pos 0; initial = pos 0; transitions = []; initials = [] }
 
 abbrev pub no_resource : Resource
-no_resource = record { number = 0; kind = 0; skills = 0; companions = []; count = 0; timeline = no_diary; matrix = no_matrix; last = Nothing }
+no_resource = record { number = 0; kind = 0; skills = 0; companions = []; count = 0; timeline = no_diary; matrix = no_matrix; last = None }
 
 -- the resource with another diary
 abbrev pub with_timeline : ResourceTimeline → Resource → Resource
@@ -73,7 +71,7 @@ with_matrix m r = record {
 }
 
 -- the resource with another last category
-abbrev pub with_last : LastCategory → Resource → Resource
+abbrev pub with_last : Option ℕ → Resource → Resource
 with_last last r = record {
   number = r.number;
   kind = r.kind;

@@ -1,13 +1,11 @@
 -- When a board keeps the rules: its length, each resource's number, companions, diary, matrix and last category, no number twice, the
 -- transport, and 0 in every cell past a length.
-use Rattle.std.specs.Prelude.{ℕ, ◌/◌, ◌%◌, Bool, true, false, not, cond, ◌&&◌, ◌||◌, List, get_or, leb, ltb, eqb, ℤ, pos, negsuc}
+use Rattle.std.specs.Prelude.{ℕ, ◌/◌, ◌%◌, Bool, true, false, not, cond, ◌&&◌, ◌||◌, List, get_or, leb, ltb, eqb, ℤ, pos, negsuc, Option, Some, None}
 use Rattle.calendar.specs.Limits.{longest_duration}
 use Rattle.cells.specs.Every.{every_from}
 use Rattle.timeline.specs.declared.ResourceTimeline.{ResourceTimeline}
 use Rattle.timeline.specs.Valid as timeline
 use Rattle.board.specs.declared.TransitionMatrix.{TransitionMatrix}
-use Rattle.board.specs.declared.LastCategory.{LastCategory}
-use Rattle.board.specs.declared.LastCategory.TheVariants.{Nothing, Category}
 use Rattle.board.specs.declared.Resource.{Resource}
 use Rattle.board.specs.declared.Board.{Board}
 use Rattle.board.specs.Resources.{resource_at, number_at, lookup_to, on_board}
@@ -49,9 +47,9 @@ unfoldable pub companions_right : List ℕ → ℕ → Bool
 companions_right cs n = leb n 4 && every_from (λ i. companion_cell n i (get_or cs i 0)) 0 4
 
 -- categories are 0 to 15
-unfoldable pub last_right : LastCategory → Bool
-last_right Nothing = true
-last_right (Category c) = leb c 15
+unfoldable pub last_right : Option ℕ → Bool
+last_right None = true
+last_right (Some c) = leb c 15
 
 unfoldable pub resource_right : Resource → Bool
 resource_right r =
@@ -71,9 +69,9 @@ diary_blank t =
     && (eqb t.calendar.blocks.len 0
     && timeline.contents_right t)))
 
-unfoldable pub last_blank : LastCategory → Bool
-last_blank Nothing = true
-last_blank (Category c) = false
+unfoldable pub last_blank : Option ℕ → Bool
+last_blank None = true
+last_blank (Some c) = false
 
 -- a cell past the length: 0 throughout, its capacity too
 unfoldable pub resource_blank : Resource → Bool

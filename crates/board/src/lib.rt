@@ -14,6 +14,7 @@ use timeline::ResourceTimeline;
 const LONGEST: i64 = 68719476736;
 
 // The setups of a resource by category: 16 * last + this, and the first entries; -1 is an absent entry. Not present: 0 throughout.
+// A flag, and no Option of a matrix: 01, 15 refuses a matrix that is not there and not 0 throughout, so that such values are spoken of.
 #[derive(Clone, Copy)]
 pub struct TransitionMatrix {
     pub present: bool,
@@ -23,14 +24,8 @@ pub struct TransitionMatrix {
     pub initials: [i64; 16],
 }
 
-// The category that was last on a resource.
-#[derive(Clone, Copy)]
-pub enum LastCategory {
-    Nothing,
-    Category(u8),
-}
-
-// A resource: `count` companions in order, the cells past them 0.
+// A resource: `count` companions in order, the cells past them 0; `last` is the category that was last on it.
+// A count beside the cells, and no slice: a board is a plain value, and its rules (01, 15) speak of the cells past the count.
 #[derive(Clone, Copy)]
 pub struct Resource {
     pub number: u8,
@@ -40,7 +35,7 @@ pub struct Resource {
     pub count: usize,
     pub timeline: ResourceTimeline,
     pub matrix: TransitionMatrix,
-    pub last: LastCategory,
+    pub last: Option<u8>,
 }
 
 // The resources in board order, the cells past `len` 0; the transport by 16 * from + to.
@@ -51,38 +46,20 @@ pub struct Board {
     pub transport: [u64; 256],
 }
 
-// What an entry answers: the refusal's number, 0 for none, and the board, new or unchanged.
-#[derive(Clone, Copy)]
-pub struct Entered {
-    pub refusal: u8,
-    pub board: Board,
-}
-
-// What looking up a diary answers: the refusal's number, 0 for none, and the diary, or a blank one.
-#[derive(Clone, Copy)]
-pub struct Looked {
-    pub refusal: u8,
-    pub timeline: ResourceTimeline,
-}
-
 // A duration, 0 to 2^36.
+#[tactic(auto, unfolding(crate::specs::Valid::duration_right))]
 pub fn duration_right(ms: i64) -> bool
     ensures { result ≡ duration_right ms }
 {
-    if ms < 0 {
-        return false;
-    }
-    ms <= LONGEST
+    ms >= 0 && ms <= LONGEST
 }
 
 // An entry of a matrix: a duration, or -1.
+#[tactic(auto, unfolding(crate::specs::Valid::entry_right))]
 pub fn entry_right(ms: i64) -> bool
     ensures { result ≡ entry_right ms }
 {
-    if ms < -1 {
-        return false;
-    }
-    ms <= LONGEST
+    ms >= -1 && ms <= LONGEST
 }
 
 // No matrix.
@@ -102,47 +79,33 @@ pub fn blank_matrix() -> TransitionMatrix
 pub fn blank_resource() -> Resource
     ensures { result ≡ blank_resource }
 {
-    let none = timeline::blank();
-    let matrix = blank_matrix();
     Resource {
         number: 0,
         kind: 0,
         skills: 0,
         companions: [0; 4],
         count: 0,
-        timeline: none,
-        matrix: matrix,
-        last: LastCategory::Nothing,
+        timeline: timeline::blank(),
+        matrix: blank_matrix(),
+        last: None,
     }
 }
 
 // The resource with another last category.
-pub fn with_last(r: Resource, last: LastCategory) -> Resource
+pub fn with_last(r: Resource, last: Option<u8>) -> Resource
     ensures { result ≡ with_last last r }
 {
-    let companions = r.companions;
-    let timeline = r.timeline;
-    let matrix = r.matrix;
-    Resource {
-        number: r.number,
-        kind: r.kind,
-        skills: r.skills,
-        companions: companions,
-        count: r.count,
-        timeline: timeline,
-        matrix: matrix,
-        last: last,
-    }
+    Resource { last, ..r }
 }
 
 impl Board {
     // A board with no resource.
+    #[tactic(auto, unfolding(crate::specs::Enter::empty_board))]
     pub fn new() -> Board
         ensures { result ≡ empty_board }
     {
-        let blank = blank_resource();
         Board {
-            resources: [blank; 16],
+            resources: [blank_resource(); 16],
             len: 0,
             transport: [0; 256],
         }

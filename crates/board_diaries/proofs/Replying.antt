@@ -1,18 +1,20 @@
 -- The replies of a diary looked up and of one put back, over plain values.
 use mathlib.Core.Bool.{Bool, true, false, not, cond, and-true, or-true, or-false}
-use mathlib.Core.Path.{◌≡◌, refl}
+use mathlib.Core.Path.{◌≡◌, refl, ap, ◌∙◌}
 use Prim.Native.Nat.{ℕ}
 use native.Mathlib.Omega.{arith}
 use Rattle.calendar.specs.Search.{Found, nothing, at, is_at}
 use Rattle.timeline.specs.Diary.{blank_diary}
 use Rattle.board.specs.Enter.{entered, with_resource, changed, looked_at, timeline_of_reply, put_refusal, put_timeline_reply}
-use Rattle.board_numbers.specs.Entry.{entry_at, entry_for}
+use Rattle.board_numbers.specs.Entry.{PlaceFor, entry_at, entry_for}
+use Rattle.calendar.specs.declared.refusal.Refusal.{Refusal}
+use Rattle.calendar.specs.Replies.{number_of}
+use Rattle.calendar.specs.Laws.Refusals.{numbered}
 use Rattle.board.specs.Resources.{with_timeline, resource_at, lookup, on_board}
 use Rattle.board.specs.Valid.{valid}
 use Rattle.board.specs.declared.Board.{Board}
-use Rattle.board_numbers.specs.declared.PlaceFor.{PlaceFor}
-use Rattle.board.specs.Laws.Replying.{refused-by}
-use Rattle.board_numbers.proofs.Finding.{entry-refusal}
+use Rattle.board.specs.Laws.Replying.{refused-by, refused_as}
+use Rattle.board_numbers.proofs.Finding.{entry_err}
 use Rattle.timeline.specs.declared.ResourceTimeline.{ResourceTimeline}
 use Rattle.timeline.specs.Valid as timeline
 
@@ -26,10 +28,11 @@ module _ (b : Board) (number : ℕ) where
   looked-of true nothing h = refl
   looked-of true (at i) h = absurd (h refl)
 
-  pub looked-refused : (e : PlaceFor) (t : ResourceTimeline) → e ≡ entry_for b number → (e.refusal ≡ 0 → ⊥) → t ≡ blank_diary
-      → record { refusal = e.refusal; timeline = t } ≡ timeline_of_reply b number
+  pub looked_refused : (e : Refusal) → record { refusal = number_of e; place = 0 } ≡ entry_for b number → record { refusal = number_of e; timeline = blank_diary } ≡ timeline_of_reply b number
   unfolding timeline_of_reply entry_for
-  looked-refused e t q h p = rw (p, q) (looked-of (valid b) (lookup b number) (rw q at h))
+  looked_refused e q =
+      let p = ap (λ (x : PlaceFor). x.refusal) q in
+      rw p (looked-of (valid b) (lookup b number) (λ z. numbered e (p ∙ z)))
 
   pub looked-taken : (k : ℕ) → valid b ≡ true → lookup b number ≡ at k → record { refusal = 0; timeline = (resource_at b k).timeline } ≡ timeline_of_reply b number
   unfolding timeline_of_reply looked_at
@@ -41,10 +44,9 @@ module _ (b : Board) (number : ℕ) (t : ResourceTimeline) where
   unfolding put_timeline_reply put_refusal
   put_wrong w = refused-by 15 _ b _ (rw (w, or-true (not (valid b))) refl) (λ z. omega arith)
 
-  pub put_refused : (e : PlaceFor) → timeline.valid t ≡ true → e ≡ entry_for b number → (e.refusal ≡ 0 → ⊥) → record { refusal = e.refusal; board = b } ≡ put_timeline_reply b number t
+  pub put_refused : (e : Refusal) → timeline.valid t ≡ true → record { refusal = number_of e; place = 0 } ≡ entry_for b number → record { refusal = number_of e; board = b } ≡ put_timeline_reply b number t
   unfolding put_timeline_reply put_refusal
-  put_refused e w q h =
-      refused-by e.refusal _ b _ (rw (w, or-false (not (valid b))) (rw (and-true (on_board b number)) at (entry-refusal b number e 0 q h true))) h
+  put_refused e w q = refused_as e _ b _ (rw (w, or-false (not (valid b))) (rw (and-true (on_board b number)) at (entry_err b number e q 0 true)))
 
   pub put-taken : (k : ℕ) → timeline.valid t ≡ true → valid b ≡ true → lookup b number ≡ at k
       → record { refusal = 0; board = with_resource b k (with_timeline t (resource_at b k)) } ≡ put_timeline_reply b number t

@@ -2,56 +2,30 @@
 #![tactic(auto)]
 
 ghost use Rattle.std.specs.Prelude.{◌≡◌};
+ghost use Rattle.board.specs.Replies.{entered_of, looked_of};
 ghost use Rattle.board.specs.Enter.{timeline_of_reply, put_timeline_reply};
 
-use board::{Board, Entered, Looked};
+use board::Board;
+use calendar::Refusal;
 use timeline::ResourceTimeline;
 
-// The diary of a resource, or refuses: 15, 5 not on the board.
-pub fn timeline_of(board: Board, number: u8) -> Looked
-    ensures { result ≡ timeline_of_reply board number }
+// The diary of a resource, or refuses: a board that breaks the rules, a number that is not on it.
+pub fn timeline_of(board: Board, number: u8) -> Result<ResourceTimeline, Refusal>
+    ensures { looked_of result ≡ timeline_of_reply board number }
 {
-    let e = board_numbers::entry_for(board, number);
-    if e.refusal != 0 {
-        let none = timeline::blank();
-        return Looked {
-            refusal: e.refusal,
-            timeline: none,
-        };
-    }
-    let i = e.place;
-    let r = board.resources[i];
-    let t = r.timeline;
-    Looked {
-        refusal: 0,
-        timeline: t,
-    }
+    let i = board_numbers::entry_for(board, number)?;
+    Ok(board.resources[i].timeline)
 }
 
-// Puts a diary back to its resource, or refuses: 15 a board or a diary that breaks the rules, 5 not on the board.
-pub fn put_timeline(board: Board, number: u8, timeline: ResourceTimeline) -> Entered
-    ensures { result ≡ put_timeline_reply board number timeline }
+// Puts a diary back to its resource, or refuses: a board or a diary that breaks the rules, a number that is not on the board.
+pub fn put_timeline(board: Board, number: u8, timeline: ResourceTimeline) -> Result<Board, Refusal>
+    ensures { entered_of board result ≡ put_timeline_reply board number timeline }
 {
     if !timeline::is_valid(timeline) {
-        return Entered {
-            refusal: 15,
-            board: board,
-        };
+        return Err(Refusal::Invalid);
     }
-    let e = board_numbers::entry_for(board, number);
-    if e.refusal != 0 {
-        return Entered {
-            refusal: e.refusal,
-            board: board,
-        };
-    }
-    let place = e.place;
+    let place = board_numbers::entry_for(board, number)?;
     let mut after = board;
-    let mut r = after.resources[place];
-    r.timeline = timeline;
-    after.resources[place] = r;
-    Entered {
-        refusal: 0,
-        board: after,
-    }
+    after.resources[place].timeline = timeline;
+    Ok(after)
 }

@@ -13,17 +13,17 @@ use Rattle.board.specs.Resources.{with_matrix, resource_at, lookup, on_board}
 use Rattle.board.specs.Valid.{duration_right, entry_right, valid}
 use Rattle.board.specs.declared.Board.{Board}
 use Rattle.board.specs.declared.TransitionMatrix.{TransitionMatrix}
-use Rattle.board.specs.Laws.Replying.{refused-by, taken-by}
-use Rattle.board_numbers.proofs.Finding.{entry-refusal}
-use Rattle.board_numbers.specs.declared.PlaceFor.{PlaceFor}
+use Rattle.board.specs.Laws.Replying.{refused-by, refused_as, taken-by}
+use Rattle.board_numbers.proofs.Finding.{entry_err}
+use Rattle.calendar.specs.declared.refusal.Refusal.{Refusal}
+use Rattle.calendar.specs.Replies.{number_of}
 use Rattle.board_numbers.specs.Entry.{entry_for}
 
 -- a matrix
 module _ (b : Board) (number : ℕ) (d i : ℤ) where
-  pub matrix-refused : (e : PlaceFor) → e ≡ entry_for b number → (e.refusal ≡ 0 → ⊥) → record { refusal = e.refusal; board = b } ≡ set_matrix_reply b number d i
+  pub matrix_refused : (e : Refusal) → record { refusal = number_of e; place = 0 } ≡ entry_for b number → record { refusal = number_of e; board = b } ≡ set_matrix_reply b number d i
   unfolding set_matrix_reply matrix_refusal
-  matrix-refused e q h =
-      refused-by e.refusal _ b _ (rw (and-true (on_board b number)) at (entry-refusal b number e (cond (not (duration_right d && duration_right i)) 1 0) q h true)) h
+  matrix_refused e q = refused_as e _ b _ (rw (and-true (on_board b number)) at (entry_err b number e q (cond (not (duration_right d && duration_right i)) 1 0) true))
 
   pub matrix-wrong : (k : ℕ) → valid b ≡ true → lookup b number ≡ at k → duration_right d && duration_right i ≡ false → record { refusal = 1; board = b } ≡ set_matrix_reply b number d i
   unfolding set_matrix_reply matrix_refusal is_at
@@ -36,9 +36,9 @@ module _ (b : Board) (number : ℕ) (d i : ℤ) where
 
 -- an entry of a matrix
 module _ (b : Board) (number : ℕ) (more : Bool) (ms : ℤ) (after : Board) where
-  pub entry-refused : (e : PlaceFor) → e ≡ entry_for b number → (e.refusal ≡ 0 → ⊥) → record { refusal = e.refusal; board = b } ≡ entered (entry_refusal b number more ms) b after
+  pub entry_refused : (e : Refusal) → record { refusal = number_of e; place = 0 } ≡ entry_for b number → record { refusal = number_of e; board = b } ≡ entered (entry_refusal b number more ms) b after
   unfolding entry_refusal
-  entry-refused e q h = refused-by e.refusal _ b after (entry-refusal b number e (cond (not (entry_right ms)) 1 0) q h more) h
+  entry_refused e q = refused_as e _ b after (entry_err b number e q (cond (not (entry_right ms)) 1 0) more)
 
   pub category-refused : valid b ≡ true → more ≡ false → record { refusal = 5; board = b } ≡ entered (entry_refusal b number more ms) b after
   unfolding entry_refusal

@@ -2,11 +2,14 @@
 // 'Board entries').
 #![tactic(auto)]
 
-ghost use Rattle.std.specs.Prelude.{◌≡◌, ◌≤◌};
-ghost use Rattle.board.specs.Enter.{new_matrix, matrix_of, with_transition, with_initial, set_matrix_reply, set_transition_reply, set_initial_reply};
+ghost use Rattle.std.specs.Prelude.{◌≡◌, ◌≤◌, ◌<◌};
+ghost use Rattle.board.specs.Replies.{entered_of};
+ghost use Rattle.board.specs.Resources.{resource_at, with_matrix};
+ghost use Rattle.board.specs.Enter.{with_resource, new_matrix, matrix_of, with_transition, with_initial, set_matrix_reply, set_transition_reply, set_initial_reply};
 
-use board::{Board, Entered, TransitionMatrix};
+use board::{Board, TransitionMatrix, duration_right, entry_right};
 use board_numbers::entry_for;
+use calendar::Refusal;
 
 // A matrix with every entry absent.
 fn new_matrix(default: i64, initial: i64) -> TransitionMatrix
@@ -14,20 +17,18 @@ fn new_matrix(default: i64, initial: i64) -> TransitionMatrix
 {
     TransitionMatrix {
         present: true,
-        default: default,
-        initial: initial,
+        default,
+        initial,
         transitions: [-1; 256],
         initials: [-1; 16],
     }
 }
 
+#[tactic(auto, unfolding(board::specs::Enter::matrix_of))]
 fn matrix_of(m: TransitionMatrix) -> TransitionMatrix
     ensures { result ≡ matrix_of m }
 {
-    if m.present {
-        return m;
-    }
-    new_matrix(0, 0)
+    if m.present { m } else { new_matrix(0, 0) }
 }
 
 fn with_transition(m: TransitionMatrix, last: u8, this: u8, ms: i64) -> TransitionMatrix
@@ -35,8 +36,7 @@ fn with_transition(m: TransitionMatrix, last: u8, this: u8, ms: i64) -> Transiti
     ensures { result ≡ with_transition last this ms (matrix_of m) }
 {
     let mut r = matrix_of(m);
-    let k = 16 * (last as usize) + (this as usize);
-    r.transitions[k] = ms;
+    r.transitions[16 * last as usize + this as usize] = ms;
     r
 }
 
@@ -49,113 +49,61 @@ fn with_initial(m: TransitionMatrix, category: u8, ms: i64) -> TransitionMatrix
     r
 }
 
-// Gives a resource a matrix with every entry absent, or refuses: 15, 5 not on the board, 1 outside 0 to 2^36.
-pub fn set_matrix(board: Board, number: u8, default: i64, initial: i64) -> Entered
-    ensures { result ≡ set_matrix_reply board number default initial }
+// The board with another matrix on the resource at this place.
+fn with_matrix(board: Board, place: usize, m: TransitionMatrix) -> Board
+    requires { place < 16 }
+    ensures { result ≡ with_resource board place (with_matrix m (resource_at board place)) }
 {
-    let e = entry_for(board, number);
-    if e.refusal != 0 {
-        return Entered {
-            refusal: e.refusal,
-            board: board,
-        };
-    }
-    if !board::duration_right(default) {
-        return Entered {
-            refusal: 1,
-            board: board,
-        };
-    }
-    if !board::duration_right(initial) {
-        return Entered {
-            refusal: 1,
-            board: board,
-        };
-    }
-    let m = new_matrix(default, initial);
-    let i = e.place;
     let mut b = board;
-    let mut r = b.resources[i];
-    r.matrix = m;
-    b.resources[i] = r;
-    Entered {
-        refusal: 0,
-        board: b,
-    }
+    b.resources[place].matrix = m;
+    b
 }
 
-// Sets the entry of a pair of categories, or refuses: 15, 5 not on the board or a category above 15, 1 outside 0 to 2^36 and not -1.
-pub fn set_transition(board: Board, number: u8, last: u8, this: u8, ms: i64) -> Entered
-    ensures { result ≡ set_transition_reply board number last this ms }
+// Gives a resource a matrix with every entry absent, or refuses: a board that breaks the rules, a number that is not on it, a duration
+// outside 0 to 2^36.
+pub fn set_matrix(board: Board, number: u8, default: i64, initial: i64) -> Result<Board, Refusal>
+    ensures { entered_of board result ≡ set_matrix_reply board number default initial }
 {
-    let e = entry_for(board, number);
-    if e.refusal != 0 {
-        return Entered {
-            refusal: e.refusal,
-            board: board,
-        };
+    let i = entry_for(board, number)?;
+    if !duration_right(default) || !duration_right(initial) {
+        return Err(Refusal::OutOfRange);
     }
-    if last > 15 {
-        return Entered {
-            refusal: 5,
-            board: board,
-        };
+    Ok(with_matrix(board, i, new_matrix(default, initial)))
+}
+
+// Sets the entry of a pair of categories, or refuses: a board that breaks the rules, a number that is not on it or a category above 15, an
+// entry outside 0 to 2^36 and not -1.
+pub fn set_transition(
+    board: Board,
+    number: u8,
+    last: u8,
+    this: u8,
+    ms: i64,
+) -> Result<Board, Refusal>
+    ensures { entered_of board result ≡ set_transition_reply board number last this ms }
+{
+    let i = entry_for(board, number)?;
+    if last > 15 || this > 15 {
+        return Err(Refusal::Number);
     }
-    if this > 15 {
-        return Entered {
-            refusal: 5,
-            board: board,
-        };
+    if !entry_right(ms) {
+        return Err(Refusal::OutOfRange);
     }
-    if !board::entry_right(ms) {
-        return Entered {
-            refusal: 1,
-            board: board,
-        };
-    }
-    let i = e.place;
-    let mut b = board;
-    let mut r = b.resources[i];
-    let m = with_transition(r.matrix, last, this, ms);
-    r.matrix = m;
-    b.resources[i] = r;
-    Entered {
-        refusal: 0,
-        board: b,
-    }
+    let m = with_transition(board.resources[i].matrix, last, this, ms);
+    Ok(with_matrix(board, i, m))
 }
 
 // Sets the first entry of a category, or refuses as for a pair.
-pub fn set_initial(board: Board, number: u8, category: u8, ms: i64) -> Entered
-    ensures { result ≡ set_initial_reply board number category ms }
+pub fn set_initial(board: Board, number: u8, category: u8, ms: i64) -> Result<Board, Refusal>
+    ensures { entered_of board result ≡ set_initial_reply board number category ms }
 {
-    let e = entry_for(board, number);
-    if e.refusal != 0 {
-        return Entered {
-            refusal: e.refusal,
-            board: board,
-        };
-    }
+    let i = entry_for(board, number)?;
     if category > 15 {
-        return Entered {
-            refusal: 5,
-            board: board,
-        };
+        return Err(Refusal::Number);
     }
-    if !board::entry_right(ms) {
-        return Entered {
-            refusal: 1,
-            board: board,
-        };
+    if !entry_right(ms) {
+        return Err(Refusal::OutOfRange);
     }
-    let i = e.place;
-    let mut b = board;
-    let mut r = b.resources[i];
-    let m = with_initial(r.matrix, category, ms);
-    r.matrix = m;
-    b.resources[i] = r;
-    Entered {
-        refusal: 0,
-        board: b,
-    }
+    let m = with_initial(board.resources[i].matrix, category, ms);
+    Ok(with_matrix(board, i, m))
 }

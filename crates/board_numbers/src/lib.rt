@@ -2,54 +2,29 @@
 // 5).
 #![tactic(auto)]
 
-ghost use Rattle.std.specs.Prelude.{◌≡◌, ◌&&◌, get_or, leb, ltb};
-ghost use Rattle.board_numbers.specs.Entry.{entry_for};
+ghost use Rattle.std.specs.Prelude.{◌≡◌, ◌&&◌, ◌<◌, IfOk, get_or, leb, ltb};
+ghost use Rattle.board_numbers.specs.Entry.{place_for_of, entry_for};
 
 use board::Board;
+use calendar::Refusal;
 
 // A number is on the board, by the places of all numbers.
 pub fn is_on(places: &[usize; 16], number: u8) -> bool
     ensures { result ≡ leb number 15 && ltb (get_or places.now number 0) 16 }
 {
-    if number > 15 {
-        return false;
-    }
-    places[number as usize] < 16
+    number <= 15 && places[number as usize] < 16
 }
 
-// The refusal of an entry for a resource by the board and its number, 0 for none; then its place.
-#[derive(Clone, Copy)]
-pub struct PlaceFor {
-    pub refusal: u8,
-    pub place: usize,
-}
-
-pub fn entry_for(b: Board, number: u8) -> PlaceFor
-    ensures { result ≡ entry_for b number }
+// The place of the resource that an entry names, or refuses: a board that breaks the rules, a number that is not on it.
+pub fn entry_for(b: Board, number: u8) -> Result<usize, Refusal>
+    ensures entry { place_for_of result ≡ entry_for b number }
+    ensures below { IfOk result (λ place. place < 16) }
 {
-    let p = board_rules::places_of(b);
-    if !p.right {
-        return PlaceFor {
-            refusal: 15,
-            place: 0,
-        };
+    let Some(p) = board_rules::places_of(b) else {
+        return Err(Refusal::Invalid);
+    };
+    if !is_on(&p.places, number) {
+        return Err(Refusal::Number);
     }
-    if number > 15 {
-        return PlaceFor {
-            refusal: 5,
-            place: 0,
-        };
-    }
-    let places = p.places;
-    let i = places[number as usize];
-    if i >= 16 {
-        return PlaceFor {
-            refusal: 5,
-            place: 0,
-        };
-    }
-    PlaceFor {
-        refusal: 0,
-        place: i,
-    }
+    Ok(p.places[number as usize])
 }

@@ -4,71 +4,58 @@
 
 ghost use Rattle.std.specs.Prelude.{◌≡◌, ◌≤◌, length, leb};
 ghost use Rattle.cells.specs.Every.{every};
+ghost use Rattle.calendar.specs.Replies.{refused};
+ghost use Rattle.board.specs.Replies.{entered_of};
 ghost use Rattle.board.specs.Resources.{companion_cells};
 ghost use Rattle.board.specs.Enter.{add_refusal, add_resource_reply};
 
-use board::{Board, Entered};
+use board::{Board, Resource};
 use board_numbers::is_on;
+use calendar::Refusal;
 use timeline::ResourceTimeline;
 
 // Every companion's number is at most 15, however many there are.
 fn numbers_right(companions: &[u8]) -> bool
     ensures { result ≡ every (λ companion. leb companion 15) companions.now }
 {
-    let n = companions.len();
-    let mut i: usize = 0;
-    while i < n {
-        if companions[i] > 15 {
-            return false;
-        }
-        i += 1;
-    }
-    true
+    companions.iter().all(|companion| *companion <= 15)
 }
 
 fn companion_cells(companions: &[u8]) -> [u8; 4]
     requires { length companions.now ≤ 4 }
     ensures { result ≡ companion_cells companions.now }
 {
-    let n = companions.len();
-    let mut cells: [u8; 4] = [0; 4];
-    let mut i: usize = 0;
-    while i < n {
-        cells[i] = companions[i];
-        i += 1;
-    }
+    let mut cells = [0; 4];
+    cells[..companions.len()].copy_from_slice(companions);
     cells
 }
 
-// The refusal of a new resource, 0 for none.
-fn add_refusal(b: Board, number: u8, companions: &[u8], timeline: ResourceTimeline) -> u8
-    ensures { result ≡ add_refusal b number companions.now timeline }
+// Refuses a new resource: a board or a diary that breaks the rules, a number or a companion's above 15, and as full a number that the
+// board already has, or more than four companions.
+fn check_add(
+    b: Board,
+    number: u8,
+    companions: &[u8],
+    timeline: ResourceTimeline,
+) -> Result<(), Refusal>
+    ensures { refused result ≡ add_refusal b number companions.now timeline }
 {
-    let p = board_rules::places_of(b);
-    if !p.right {
-        return 15;
-    }
+    let Some(p) = board_rules::places_of(b) else {
+        return Err(Refusal::Invalid);
+    };
     if !timeline::is_valid(timeline) {
-        return 15;
+        return Err(Refusal::Invalid);
     }
-    if number > 15 {
-        return 5;
+    if number > 15 || !numbers_right(companions) {
+        return Err(Refusal::Number);
     }
-    if !numbers_right(companions) {
-        return 5;
+    if is_on(&p.places, number) || companions.len() > 4 {
+        return Err(Refusal::Full);
     }
-    let places = p.places;
-    if is_on(&places, number) {
-        return 4;
-    }
-    if companions.len() > 4 {
-        return 4;
-    }
-    0
+    Ok(())
 }
 
-// Adds a resource behind the others, or refuses: 15 a board or a diary that breaks the rules, 5 a number or a companion's above 15,
-// 4 a number that the board already has, or more than four companions.
+// Adds a resource behind the others, or refuses it.
 pub fn add_resource(
     board: Board,
     number: u8,
@@ -76,30 +63,20 @@ pub fn add_resource(
     skills: u64,
     companions: &[u8],
     timeline: ResourceTimeline,
-) -> Entered
-    ensures { result ≡ add_resource_reply board number kind skills companions.now timeline }
+) -> Result<Board, Refusal>
+    ensures { entered_of board result ≡ add_resource_reply board number kind skills companions.now timeline }
 {
-    let refusal = add_refusal(board, number, companions, timeline);
-    if refusal != 0 {
-        return Entered {
-            refusal: refusal,
-            board: board,
-        };
-    }
-    let cells = companion_cells(companions);
-    let mut r = board::blank_resource();
-    r.number = number;
-    r.kind = kind;
-    r.skills = skills;
-    r.companions = cells;
-    r.count = companions.len();
-    r.timeline = timeline;
-    let n = board.len;
+    check_add(board, number, companions, timeline)?;
     let mut b = board;
-    b.resources[n] = r;
-    b.len = n + 1;
-    Entered {
-        refusal: 0,
-        board: b,
-    }
+    b.resources[board.len] = Resource {
+        number,
+        kind,
+        skills,
+        companions: companion_cells(companions),
+        count: companions.len(),
+        timeline,
+        ..board::blank_resource()
+    };
+    b.len += 1;
+    Ok(b)
 }

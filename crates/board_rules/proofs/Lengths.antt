@@ -1,6 +1,6 @@
 -- How many bookings the diaries of a board have.
-use mathlib.Core.Path.{◌≡◌, sym, ◌∙◌}
-use mathlib.Core.Bool.{true, false, true≢false}
+use mathlib.Core.Path.{◌≡◌}
+use mathlib.Core.Bool.{true}
 use mathlib.Core.Logic.{⊎_elim}
 use mathlib.Core.List.{List}
 use Prim.Native.Nat.{ℕ, ◌≤◌, ◌<◌}
@@ -13,7 +13,6 @@ use Rattle.timeline.specs.Laws.Rules as timeline
 use Rattle.board.specs.declared.Board.{Board}
 use Rattle.board.specs.declared.Resource.{Resource}
 use Rattle.board.specs.Resources.{resource_at}
-use Rattle.board.specs.Places.{Known, Lengths}
 use Rattle.board.specs.Valid.{valid, companions_right, resource_blank, diary_blank}
 use Rattle.board.specs.Laws.Facts.{rules_of}
 use Rattle.board.specs.Theorems.Meaning.{resource-of}
@@ -41,8 +40,3 @@ few-bookings b v i l =
 -- the diaries so far are read
 abbrev pub Read : Board → ℕ → List ℕ → Type 0
 Read b i lens = (k : ℕ) → k < i → get_or lens k 0 ≡ (resource_at b k).timeline.len
-
--- a board that breaks the rules promises no places and no lengths
-pub refuted : (b : Board) (places lens : List ℕ) → valid b ≡ false
-    → (false ≡ valid b) × (valid b ≡ true → Known b places × Lengths b lens × ((i : ℕ) → i < 16 → get_or lens i 0 ≤ 64))
-refuted b places lens e = (sym e, λ h. absurd (true≢false (sym h ∙ e)))

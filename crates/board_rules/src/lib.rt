@@ -6,56 +6,45 @@ use board::Board;
 
 mod rules;
 
-ghost use Rattle.std.specs.Prelude.{◌≡◌, true};
+ghost use Rattle.std.specs.Prelude.{◌≡◌, true, false, MatchOption};
 ghost use Rattle.board.specs.Valid.{valid};
 ghost use Rattle.board.specs.Places.{Known, Lengths, FewBookings};
 
-// Whether the board keeps the rules; if so, the place of each number on it, 16 for a number that is not there, and how many bookings
-// the diary at each place has.
+// What is read off a board that keeps the rules: the place of each number on it, 16 for a number that is not there, and how many bookings
+// the diary at each place has. (16, and no Option: the definitions speak of the places as numbers.)
 #[derive(Clone, Copy)]
 pub struct Places {
-    pub right: bool,
     pub places: [usize; 16],
     pub lens: [u64; 16],
 }
 
-pub fn places_of(b: Board) -> Places
-    ensures { (result.right ≡ valid b) × (valid b ≡ true → Known b result.places × Lengths b result.lens × FewBookings result.lens) }
+// The places, where the board keeps the rules.
+pub fn places_of(b: Board) -> Option<Places>
+    ensures { MatchOption result (valid b ≡ false) (λ p. (valid b ≡ true) × Known b p.places × Lengths b p.lens × FewBookings p.lens) }
 {
-    let len = b.len;
-    let mut places: [usize; 16] = [16; 16];
-    let mut lens: [u64; 16] = [0; 16];
-    let wrong = Places {
-        right: false,
-        places: places,
-        lens: lens,
-    };
-    if len > 16 {
-        return wrong;
+    if b.len > 16 {
+        return None;
     }
-    let mut i: usize = 0;
-    while i < 16 {
-        let r = b.resources[i];
-        if !board_cell_rules::cell_right(r, i < len) {
-            return wrong;
+    let mut places = [16; 16];
+    let mut lens = [0; 16];
+    for (i, r) in b.resources.iter().enumerate() {
+        let there = i < b.len;
+        if !board_cell_rules::cell_right(*r, there) {
+            return None;
         }
-        if i < len {
+        if there {
             let number = r.number as usize;
             if places[number] < 16 {
-                return wrong;
+                return None;
             }
             places[number] = i;
         }
-        let t = r.timeline;
-        lens[i] = t.len as u64;
-        i += 1;
+        lens[i] = r.timeline.len as u64;
     }
-    let transport = b.transport;
-    let right = rules::transport_right(&transport, &places);
-    Places {
-        right: right,
-        places: places,
-        lens: lens,
+    if rules::transport_right(&b.transport, &places) {
+        Some(Places { places, lens })
+    } else {
+        None
     }
 }
 
@@ -63,6 +52,5 @@ pub fn places_of(b: Board) -> Places
 pub fn is_valid(b: Board) -> bool
     ensures { result ≡ valid b }
 {
-    let p = places_of(b);
-    p.right
+    places_of(b).is_some()
 }

@@ -9,28 +9,17 @@ use calendar::limits::LONGEST_DURATION;
 fn transport_cell(ms: u64, from: usize, to: usize) -> bool
     ensures { result ≡ transport_cell ms (ltb from 16) (ltb to 16) }
 {
-    if ms > LONGEST_DURATION {
-        return false;
-    }
-    if from >= 16 {
-        return ms == 0;
-    }
-    if to >= 16 {
-        return ms == 0;
-    }
-    true
+    ms <= LONGEST_DURATION && (from < 16 && to < 16 || ms == 0)
 }
 
 // The transport keeps the rules, `places` being the places of the numbers, 16 for a number that is not on the board.
 pub fn transport_right(transport: &[u64; 256], places: &[usize; 16]) -> bool
     ensures { result ≡ every_from (transport_right_by transport.now places.now) 0 256 }
 {
-    let mut k: usize = 0;
-    while k < 256 {
-        if !transport_cell(transport[k], places[k / 16], places[k % 16]) {
+    for (k, ms) in transport.iter().enumerate() {
+        if !transport_cell(*ms, places[k / 16], places[k % 16]) {
             return false;
         }
-        k += 1;
     }
     true
 }

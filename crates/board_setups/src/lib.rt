@@ -8,20 +8,19 @@ ghost use Rattle.board.specs.Valid.{last_right};
 ghost use Rattle.board.specs.Transport.{greatest_transport};
 ghost use Rattle.board.specs.Places.{anywhere};
 
-use board::{LastCategory, TransitionMatrix};
+use board::TransitionMatrix;
 
 // The value of an entry, and another where it is absent.
+#[tactic(auto, unfolding(board::specs::Setups::entry_or))]
 fn entry_or(ms: i64, other: u64) -> u64
     ensures { result ≡ entry_or ms other }
 {
-    if ms < 0 {
-        return other;
-    }
-    ms as u64
+    if ms < 0 { other } else { ms as u64 }
 }
 
 // The setup on a resource with this matrix and last category; `own` is the order's.
-pub fn setup_ms(m: TransitionMatrix, last: LastCategory, category: u8, own: u64) -> u64
+#[tactic(auto, unfolding(board::specs::Setups::setup_ms, board::specs::Setups::matrix_setup, board::specs::Valid::last_right))]
+pub fn setup_ms(m: TransitionMatrix, last: Option<u8>, category: u8, own: u64) -> u64
     requires { (last_right last ≡ true) × (category < 16) }
     ensures { result ≡ setup_ms m last category own }
 {
@@ -30,19 +29,14 @@ pub fn setup_ms(m: TransitionMatrix, last: LastCategory, category: u8, own: u64)
     }
     let this = category as usize;
     match last {
-        LastCategory::Nothing => {
-            let entry = m.initials[this];
-            let initial = entry_or(m.initial, 0);
-            entry_or(entry, initial)
-        }
-        LastCategory::Category(c) => {
-            let before = c as usize;
-            let entry = m.transitions[16 * before + this];
-            if c == category {
-                return entry_or(entry, 0);
-            }
-            let default = entry_or(m.default, 0);
-            entry_or(entry, default)
+        None => entry_or(m.initials[this], entry_or(m.initial, 0)),
+        Some(before) => {
+            let absent = if before == category {
+                0
+            } else {
+                entry_or(m.default, 0)
+            };
+            entry_or(m.transitions[16 * before as usize + this], absent)
         }
     }
 }
@@ -52,17 +46,11 @@ pub fn transport_between(transport: &[u64; 256], origins: u16, to: u8) -> u64
     requires { to < 16 }
     ensures { result ≡ greatest_transport anywhere transport.now origins to 16 }
 {
-    let at = to as usize;
-    let mut most: u64 = 0;
-    let mut n: usize = 0;
-    while n < 16 {
-        if (origins >> (n as u16)) & 1 == 1 {
-            let ms = transport[16 * n + at];
-            if ms > most {
-                most = ms;
-            }
+    let mut most = 0;
+    for from in 0..16 {
+        if (origins >> from) & 1 == 1 {
+            most = transport[16 * from + to as usize].max(most);
         }
-        n += 1;
     }
     most
 }

@@ -4,7 +4,7 @@ use mathlib.Core.List.{[], replicate}
 use Rattle.calendar.specs.Limits.{last_instant, most_spans}
 use Rattle.calendar.specs.declared.TimeWindows.{TimeWindows}
 use Rattle.calendar.specs.declared.Calendar.{Calendar}
-use Rattle.calendar.specs.declared.Added.{Added}
+use Rattle.calendar.specs.Replies.{Added}
 use Rattle.calendar.specs.Valid.{valid}
 
 -- 15 before all else, 1 instant out of range, 2 end ≤ start, 4 over 32; 0 for none

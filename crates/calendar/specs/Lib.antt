@@ -6,6 +6,7 @@ pub mod Sets
 pub mod Search
 pub mod Spans
 pub mod Valid
+pub mod Replies
 pub mod Fits
 pub mod Work
 pub mod Add

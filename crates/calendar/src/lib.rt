@@ -2,16 +2,20 @@
 #![tactic(auto)]
 
 pub mod limits;
+mod refusal;
 
 ghost use Rattle.std.specs.Prelude.{◌≡◌, true, ◌<◌};
 ghost use Rattle.cells.specs.Same.{Compares};
 ghost use Rattle.calendar.specs.Valid.{cell_right, spans_right, valid};
+ghost use Rattle.calendar.specs.Replies.{added_of, refused};
+ghost use Rattle.std.specs.Prelude.{IfOk};
 ghost use Rattle.calendar.specs.Add.{add_refusal, with_span, empty, add_window, add_block};
 
 use limits::LAST_INSTANT;
+pub use refusal::Refusal;
 
 // Up to 32 spans [start, end), the cells past `len` 0.
-#[derive(Clone, Copy)]
+#[derive(Clone, Copy, PartialEq, Eq)]
 pub struct TimeWindows {
     pub starts: [u64; 32],
     pub ends: [u64; 32],
@@ -19,33 +23,22 @@ pub struct TimeWindows {
 }
 
 // No windows means always open; a block shuts whatever window it meets.
-#[derive(Clone, Copy)]
+#[derive(Clone, Copy, PartialEq, Eq)]
 pub struct Calendar {
     pub windows: TimeWindows,
     pub blocks: TimeWindows,
 }
 
-// What adding answers: the refusal's number, 0 for none, and the calendar, new or unchanged.
-#[derive(Clone, Copy)]
-pub struct Added {
-    pub refusal: u8,
-    pub calendar: Calendar,
-}
-
 // Cell i of a list of n spans keeps the rules.
+#[tactic(auto, unfolding(crate::specs::Valid::cell_right))]
 fn cell_right(i: usize, n: usize, start: u64, end: u64) -> bool
     ensures { result ≡ cell_right i n start end }
 {
     if i < n {
-        if end <= start {
-            return false;
-        }
-        return end <= LAST_INSTANT;
+        start < end && end <= LAST_INSTANT
+    } else {
+        start == 0 && end == 0
     }
-    if start != 0 {
-        return false;
-    }
-    end == 0
 }
 
 fn spans_right(l: TimeWindows) -> bool
@@ -55,89 +48,65 @@ fn spans_right(l: TimeWindows) -> bool
     if n > 32 {
         return false;
     }
-    let mut i: usize = 0;
-    while i < 32 {
+    for i in 0..32 {
         if !cell_right(i, n, l.starts[i], l.ends[i]) {
             return false;
         }
-        i += 1;
     }
     true
 }
 
 // The calendar keeps the rules.
+#[tactic(auto, unfolding(crate::specs::Valid::valid))]
 pub fn is_valid(c: Calendar) -> bool
     ensures { result ≡ valid c }
 {
-    if !spans_right(c.windows) {
-        return false;
-    }
-    spans_right(c.blocks)
-}
-
-fn same_spans(a: TimeWindows, b: TimeWindows) -> bool
-    ensures { Compares result a b }
-{
-    if a.len != b.len {
-        return false;
-    }
-    let s = a.starts;
-    let t = b.starts;
-    if !cells::same(&s, &t) {
-        return false;
-    }
-    let e = a.ends;
-    let f = b.ends;
-    cells::same(&e, &f)
+    spans_right(c.windows) && spans_right(c.blocks)
 }
 
 // Whether two calendars are the same, cell by cell.
 pub fn same(a: Calendar, b: Calendar) -> bool
     ensures { Compares result a b }
 {
-    if !same_spans(a.windows, b.windows) {
-        return false;
-    }
-    same_spans(a.blocks, b.blocks)
+    a == b
 }
 
-// The refusal of a span that is to be added to a list of `held`, 0 for none.
-fn span_refusal(c: Calendar, held: usize, start: u64, end: u64) -> u8
-    ensures { result ≡ add_refusal c held start end }
+// Whether a span can be added to a list of `held`, or why not.
+#[tactic(auto, unfolding(crate::specs::Add::add_refusal))]
+fn check_span(c: Calendar, held: usize, start: u64, end: u64) -> Result<(), Refusal>
+    ensures { refused result ≡ add_refusal c held start end }
 {
     if !is_valid(c) {
-        return 15;
+        return Err(Refusal::Invalid);
     }
-    if start > LAST_INSTANT {
-        return 1;
-    }
-    if end > LAST_INSTANT {
-        return 1;
+    if start > LAST_INSTANT || end > LAST_INSTANT {
+        return Err(Refusal::OutOfRange);
     }
     if end <= start {
-        return 2;
+        return Err(Refusal::EmptySpan);
     }
     if held >= 32 {
-        return 4;
+        return Err(Refusal::Full);
     }
-    0
+    Ok(())
 }
 
 // The list with one span more, behind the others.
+#[tactic(auto, unfolding(crate::specs::Add::with_span))]
 fn with_span(l: TimeWindows, start: u64, end: u64) -> TimeWindows
     requires { l.len < 32 }
     ensures { result ≡ with_span l start end }
 {
-    let n = l.len;
     let mut r = l;
-    r.starts[n] = start;
-    r.ends[n] = end;
-    r.len = n + 1;
+    r.starts[l.len] = start;
+    r.ends[l.len] = end;
+    r.len += 1;
     r
 }
 
 impl Calendar {
     // Always open.
+    #[tactic(auto, unfolding(crate::specs::Add::empty))]
     pub fn new() -> Calendar
         ensures { result ≡ empty }
     {
@@ -153,50 +122,26 @@ impl Calendar {
     }
 
     // Adds a window, or refuses: 15 a calendar that breaks the rules, 1 an instant, 2 end at or before start, 4 a 33rd.
-    pub fn add_window(self, start: u64, end: u64) -> Added
-        ensures value { result ≡ add_window self start end }
-        ensures calendar_value { valid self ≡ true → valid result.calendar ≡ true }
+    #[tactic(auto, unfolding(crate::specs::Add::add_window, crate::specs::Add::added))]
+    pub fn add_window(self, start: u64, end: u64) -> Result<Calendar, Refusal>
+        ensures value { added_of self result ≡ add_window self start end }
+        ensures calendar_value { IfOk result (λ c. valid self ≡ true → valid c ≡ true) }
     {
-        let windows = self.windows;
-        let refusal = span_refusal(self, windows.len, start, end);
-        if refusal != 0 {
-            return Added {
-                refusal: refusal,
-                calendar: self,
-            };
-        }
-        let more = with_span(windows, start, end);
         let blocks = self.blocks;
-        Added {
-            refusal: 0,
-            calendar: Calendar {
-                windows: more,
-                blocks: blocks,
-            },
-        }
+        check_span(self, self.windows.len, start, end)?;
+        let windows = with_span(self.windows, start, end);
+        Ok(Calendar { windows, blocks })
     }
 
     // Adds a block, or refuses, as for a window.
-    pub fn add_block(self, start: u64, end: u64) -> Added
-        ensures value { result ≡ add_block self start end }
-        ensures calendar_value { valid self ≡ true → valid result.calendar ≡ true }
+    #[tactic(auto, unfolding(crate::specs::Add::add_block, crate::specs::Add::added))]
+    pub fn add_block(self, start: u64, end: u64) -> Result<Calendar, Refusal>
+        ensures value { added_of self result ≡ add_block self start end }
+        ensures calendar_value { IfOk result (λ c. valid self ≡ true → valid c ≡ true) }
     {
-        let blocks = self.blocks;
-        let refusal = span_refusal(self, blocks.len, start, end);
-        if refusal != 0 {
-            return Added {
-                refusal: refusal,
-                calendar: self,
-            };
-        }
-        let more = with_span(blocks, start, end);
         let windows = self.windows;
-        Added {
-            refusal: 0,
-            calendar: Calendar {
-                windows: windows,
-                blocks: more,
-            },
-        }
+        check_span(self, self.blocks.len, start, end)?;
+        let blocks = with_span(self.blocks, start, end);
+        Ok(Calendar { windows, blocks })
     }
 }

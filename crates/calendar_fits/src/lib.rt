@@ -4,30 +4,35 @@
 // another: at most 64 looks.
 #![tactic(auto)]
 
-ghost use Rattle.std.specs.Prelude.{◌≡◌, true, ◌≤◌};
-ghost use Rattle.calendar.specs.Spans.{spans, any, holds, meets, contains};
+ghost use Rattle.std.specs.Prelude.{◌≡◌, true, ◌≤◌, Bool};
+ghost use Rattle.calendar_fits.specs.Tests.{Tests};
+ghost use Rattle.calendar.specs.Spans.{Span, spans, any, holds, meets, contains};
 ghost use Rattle.calendar.specs.Valid.{valid};
 ghost use Rattle.calendar.specs.Fits.{fits};
 ghost use Rattle.calendar.specs.Work.{working};
 
 use calendar::{Calendar, TimeWindows};
 
+// Some span passes the test.
+fn any_span<F: Fn(u64, u64) -> bool>(l: TimeWindows, test: F) -> bool
+    requires len_bound { l.len ≤ 32 }
+    requires callable { F.IsAlwaysCallable test }
+    ensures { (P : Span → Bool) → Tests (F.post test) P → result ≡ any P (spans l) }
+{
+    for i in 0..l.len {
+        if test(l.starts[i], l.ends[i]) {
+            return true;
+        }
+    }
+    false
+}
+
 // Some span holds all of [start, end].
 fn some_holds(l: TimeWindows, start: u64, end: u64) -> bool
     requires { l.len ≤ 32 }
     ensures { result ≡ any (holds start end) (spans l) }
 {
-    let n = l.len;
-    let mut i: usize = 0;
-    while i < n {
-        if l.starts[i] <= start {
-            if end <= l.ends[i] {
-                return true;
-            }
-        }
-        i += 1;
-    }
-    false
+    any_span(l, |from, to| from <= start && end <= to)
 }
 
 // Some span begins before `end` and ends after `start`.
@@ -35,17 +40,7 @@ fn some_meets(l: TimeWindows, start: u64, end: u64) -> bool
     requires { l.len ≤ 32 }
     ensures { result ≡ any (meets start end) (spans l) }
 {
-    let n = l.len;
-    let mut i: usize = 0;
-    while i < n {
-        if l.starts[i] < end {
-            if start < l.ends[i] {
-                return true;
-            }
-        }
-        i += 1;
-    }
-    false
+    any_span(l, |from, to| from < end && start < to)
 }
 
 // Some span contains the instant.
@@ -53,45 +48,23 @@ fn some_contains(l: TimeWindows, time: u64) -> bool
     requires { l.len ≤ 32 }
     ensures { result ≡ any (contains time) (spans l) }
 {
-    let n = l.len;
-    let mut i: usize = 0;
-    while i < n {
-        if l.starts[i] <= time {
-            if time < l.ends[i] {
-                return true;
-            }
-        }
-        i += 1;
-    }
-    false
+    any_span(l, |from, to| from <= time && time < to)
 }
 
 // The unbroken span [start, end) fits: one single window holds it, or there are none, and no block meets it.
+#[tactic(auto, unfolding(calendar::specs::Fits::fits))]
 pub fn interval_fits(c: Calendar, start: u64, end: u64) -> bool
     requires { valid c ≡ true }
     ensures { result ≡ fits c start end }
 {
-    let windows = c.windows;
-    if some_meets(c.blocks, start, end) {
-        return false;
-    }
-    if windows.len == 0 {
-        return true;
-    }
-    some_holds(windows, start, end)
+    !some_meets(c.blocks, start, end) && (c.windows.len == 0 || some_holds(c.windows, start, end))
 }
 
 // Working time: inside some window, or there are none, and in no block.
+#[tactic(auto, unfolding(calendar::specs::Work::working))]
 pub fn is_working_time(c: Calendar, time: u64) -> bool
     requires { valid c ≡ true }
     ensures { result ≡ working c time }
 {
-    let windows = c.windows;
-    if some_contains(c.blocks, time) {
-        return false;
-    }
-    if windows.len == 0 {
-        return true;
-    }
-    some_contains(windows, time)
+    !some_contains(c.blocks, time) && (c.windows.len == 0 || some_contains(c.windows, time))
 }

@@ -8,35 +8,30 @@ ghost use Rattle.calendar.specs.Work.{work_end};
 ghost use Rattle.cells.specs.Cells.{before, Rising, Before};
 ghost use Rattle.calendar_work.specs.Layout.{laid, Edges, found_of};
 
-#[derive(Clone, Copy)]
-pub enum WorkEnd {
-    At(u64),
-    Nothing,
-}
-
-// When work that starts at `start` ends: nothing from a pause or with too little time left.
-pub fn work_end(edges: &[u64], len: usize, start: u64, work: u64) -> WorkEnd
+// When work that starts at `start` ends: none from a pause or with too little time left.
+pub fn work_end(edges: &[u64], len: usize, start: u64, work: u64) -> Option<u64>
     requires len_bound { (len ≤ 4096) × (len ≤ length edges.now) × (start < never) × (work < never) }
     requires edges { Edges edges.now len }
     ensures { found_of result ≡ work_end (before edges.now len) (laid edges.now len) start work }
 {
     let mut k = cells::cells_before(edges, len, start + 1);
     if k % 2 == 0 {
-        return WorkEnd::Nothing;
+        return None;
     }
     let mut at = start;
     let mut left = work;
+    // A `while`: each turn passes two edges, a piece's end and the next one's beginning, and the last piece may have no end.
     while k < len {
         let end = edges[k];
         if left <= end - at {
-            return WorkEnd::At(at + left);
+            return Some(at + left);
         }
         if k + 1 == len {
-            return WorkEnd::Nothing;
+            return None;
         }
         left -= end - at;
         at = edges[k + 1];
         k += 2;
     }
-    WorkEnd::At(at + left)
+    Some(at + left)
 }

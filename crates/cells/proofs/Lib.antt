@@ -1,4 +1,5 @@
--- How cells move up and running latest ends go on; how many cells are at or before an instant; cells that are sorted.
+-- How running latest ends go on; how many cells are at or before an instant; cells that are sorted.
 pub mod Shift
 pub mod Passing
 pub mod Sorting
+pub mod Halves

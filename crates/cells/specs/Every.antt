@@ -1,6 +1,6 @@
 -- A test that each of a list passes, or each of a run of indexes: the one 'each' of every rule and check of document 01; and what holds of
 -- each element of a list, or of the elements of two lists one by one.
-use Rattle.std.specs.Prelude.{Bool, true, ◌&&◌, List, [], ◌∷◌, ℕ, zero, suc, ◌-◌}
+use Rattle.std.specs.Prelude.{Bool, true, ◌&&◌, List, [], ◌∷◌, ℕ, zero, suc}
 
 -- each of a list passes the test
 unfoldable pub every : {A : Type 0} → (A → Bool) → List A → Bool

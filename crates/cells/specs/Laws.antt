@@ -5,3 +5,4 @@ pub mod Each
 pub mod Arrays
 pub mod Cells
 pub mod Same
+pub mod Chains

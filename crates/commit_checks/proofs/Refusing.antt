@@ -11,7 +11,7 @@ use borrow.Author.Tests.{lt-leb, le-ltb, lt-ltb, le-leb, ltb-false, not-false, n
 use Rattle.cells.specs.Laws.Basics.{unrefused, same_or_not}
 use Rattle.cells.specs.Every.{every, Each}
 use Rattle.board.specs.declared.Board.{Board}
-use Rattle.board.specs.declared.Entered.{Entered}
+use Rattle.board.specs.Replies.{Entered}
 use Rattle.board.specs.Valid as board
 use Rattle.board.specs.Laws.Replying.{refused-by, taken-by}
 use Rattle.scheduler.specs.Committing.{Line, lines_of, lines_refusal, commit_refusal, book_all, commit_reply, Bookable}

@@ -1,4 +1,5 @@
 -- Booking the lines of a slate: what holds of the board and of the lines that are left, one line more.
+use Rattle.std.specs.Prelude.{Option, Some, None}
 use mathlib.Core.Path.{◌≡◌, refl, sym, ap, ◌∙◌, subst}
 use mathlib.Core.Bool.{Bool, true, false, cond}
 use mathlib.Core.List.{List, [], ◌∷◌}
@@ -12,7 +13,6 @@ use Rattle.calendar.specs.Search.{at}
 use Rattle.timeline.specs.declared.ResourceTimeline.{ResourceTimeline}
 use Rattle.timeline.specs.Book.{book_refusal, taken, book_reply, with_booking}
 use Rattle.timeline.specs.Valid as timeline
-use Rattle.board.specs.declared.LastCategory.TheVariants.{Category}
 use Rattle.board.specs.declared.Resource.{Resource}
 use Rattle.board.specs.declared.Board.{Board}
 use Rattle.board.specs.Resources.{with_timeline, with_last, resource_at, lookup}
@@ -46,7 +46,7 @@ book-taken t start end category u v room w some few =
 
 module _ (r : Resource) (t : ResourceTimeline) (start end category : ℕ) (l : Line) (e : t ≡ with_booking r.timeline start end l.units) where
   -- with a matrix, and not as a companion
-  pub booked-category : r.matrix.present ≡ true → l.companion ≡ false → with_last (Category category) (with_timeline t r) ≡ booked start end category l r
+  pub booked-category : r.matrix.present ≡ true → l.companion ≡ false → with_last (Some category) (with_timeline t r) ≡ booked start end category l r
   unfolding booked last_after
   booked-category p q = rw (e, p, q) refl
 

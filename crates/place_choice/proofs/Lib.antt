@@ -1,3 +1,3 @@
 -- The proofs of the choice.
 pub mod Asking
-pub mod Stepping
+pub mod Passing

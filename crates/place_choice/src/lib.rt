@@ -7,58 +7,79 @@
 // Reference: the Rust's own, the fixed point of the serial schedule generation scheme (`place_activity`).
 #![tactic(auto)]
 
-ghost use Rattle.std.specs.Prelude.{◌≡◌, true, ◌≤◌};
-ghost use Rattle.calendar.specs.Limits.{last_asked};
+ghost use Rattle.std.specs.Prelude.{◌≡◌, ℕ, ◌≤◌, IfSome, true};
 ghost use Rattle.activity.specs.Check.{activity_refusal};
 ghost use Rattle.board.specs.Valid.{valid};
 ghost use Rattle.scheduler.specs.Choosing.{choosing};
 ghost use Rattle.board.specs.Places.{Known};
+ghost use Rattle.place_rounds.specs.Tables.{start_for};
 ghost use Rattle.place_rounds.specs.Rounds.{choice_of, Chosen};
+ghost use Rattle.place_choice.specs.Seeking.{Seeks};
 
 use activity::Activity;
 use board::Board;
 use place_companions::member_of;
+use place_plans::Plan;
 use place_rounds::Choice;
+use std::ops::ControlFlow;
 use timeline_fit::Start;
 
+// The least start of the resource at place i for requirement j, from t on, or 2^63: it is asked with its companions one after another.
+fn least_start(
+    b: &Board,
+    a: &Activity,
+    p: &Plan,
+    i: usize,
+    j: usize,
+    places: &[usize; 16],
+    t: u64,
+) -> u64
+    requires { Known b.now places.now × ((ready : ℕ) × Seeks b.now a.now ready p.now i j t) }
+    ensures { (ready : ℕ) → Seeks b.now a.now ready p.now i j t → result ≡ start_for b.now a.now ready t j i }
+{
+    let mut g = place_companions::unasked();
+    // A `while`: the asking goes on from one to the next, and back to the first where the start has moved on.
+    while g.next <= p.count {
+        let m = member_of(a.requirements[j], *p, i, places, t, g);
+        let s = match m.place {
+            Some(place) => place_companions::start_on(
+                b.resources[place].timeline,
+                a.resumable,
+                p.span,
+                m.units,
+                m.from,
+            ),
+            None => Start::Nothing,
+        };
+        g = place_companions::answered(g.next, m.from, s);
+    }
+    g.start
+}
+
 // One pass over the board for the plans, then rounds until t stays: in each, what the resources answer to each requirement from t on is
-// asked where it is not known, with their companions one after another. The board is read here alone.
-pub fn choose(b: Board, a: Activity, ready: u64, places: [usize; 16]) -> Choice
-    requires { (valid b ≡ true) × (activity_refusal a ready ≡ 0) × (1 ≤ a.len) × Known b places }
-    ensures { (choice_of b result ≡ choosing b a ready) × (result.instant ≤ last_asked) × (result.chosen ≡ true → Chosen b a ready result) }
+// asked where it is not known.
+pub fn choose(b: Board, a: Activity, ready: u64, places: &[usize; 16]) -> Option<Choice>
+    requires { (valid b ≡ true) × (activity_refusal a ready ≡ 0) × (1 ≤ a.len) × Known b places.now }
+    ensures { (choice_of b result ≡ choosing b a ready) × IfSome result (Chosen b a ready) }
 {
     let mut plans = place_plans::no_plans();
+    for i in 0..b.len {
+        plans[i] = place_plans::plan_of(b.resources[i], a, ready, &b.transport);
+    }
     let mut asked: [u64; 64] = [1; 64];
     let mut starts: [u64; 64] = [0; 64];
-    let mut x = place_rounds::begun(ready);
-    let mut g = place_companions::unasked();
-    let mut planned: usize = 0;
-    let mut k: usize = 0;
-    while !x.done {
-        if planned < b.len {
-            plans[planned] = place_plans::plan_of(b.resources[planned], a, ready, &b.transport);
-            planned += 1;
-        } else if k >= 16 * a.len {
-            x = place_rounds::settled(x, plans, starts, b.len, a);
-            k = 0;
-        } else if place_rounds::is_asked(k % 16, b.len, asked[k], starts[k], x.instant) {
-            let p = plans[k % 16];
-            let m = member_of(a.requirements[k / 16], p, k % 16, places, x.instant, g);
-            let place = m.place;
-            let mut s = Start::Nothing;
-            if place < 16 {
-                let r = b.resources[place];
-                s = place_companions::start_on(r.timeline, a.resumable, p.span, m.units, m.from);
+    let mut t = ready;
+    'rounds: loop {
+        for k in 0..16 * a.len {
+            let i = k % 16;
+            if place_rounds::is_asked(i, b.len, asked[k], starts[k], t) {
+                asked[k] = t;
+                starts[k] = least_start(&b, &a, &plans[i], i, k / 16, places, t);
             }
-            g = place_companions::answered(g.next, m.from, s);
-            if g.next > p.count {
-                asked[k] = x.instant;
-                starts[k] = g.start;
-            }
-        } else {
-            g = place_companions::unasked();
-            k += 1;
+        }
+        match place_rounds::settled(t, &plans, &starts, b.len, a) {
+            ControlFlow::Break(choice) => return choice,
+            ControlFlow::Continue(later) => t = later,
         }
     }
-    x.choice
 }

@@ -1,10 +1,10 @@
 -- A resource and its companions by their places: the diaries there are theirs.
-use Rattle.std.specs.Prelude.{◌≡◌, ℕ, zero, suc, ◌+◌, ◌<◌, ◌≤◌, true, false, cond, ltb, List, [], ◌∷◌, ◌++◌, map, length, get_or, take}
+use Rattle.std.specs.Prelude.{◌≡◌, ℕ, zero, suc, ◌+◌, ◌<◌, ◌≤◌, true, false, cond, ltb, List, [], ◌∷◌, ◌++◌, map, length, get_or, take, Some, None}
 use mathlib.Core.Path.{refl, sym, ap, ◌∙◌}
 use mathlib.Core.List.{map-append}
 use native.Mathlib.Omega.{arith}
 use lib.ListN.{length-map, length-take}
-use lib.Seq.{get_or_at, get_or-take, length-take-le}
+use lib.Seq.{get_or_at, get_or-take, length-take-le, take-length}
 use borrow.Author.Tests.{lt-ltb, le-ltb}
 use Rattle.cells.specs.Every.{every}
 use Rattle.cells.specs.Laws.Basics.{and_split, take_next}
@@ -72,13 +72,17 @@ module _ (own : ℕ) (cs places : List ℕ) (i seat j : ℕ) (l : j < length cs)
     sits_on e = record { all = next; here = rw more (s.here ∙ sym (behind-other front place own i (λ (z : length front ≡ i). e (sym long ∙ z)))) }
 
   -- or has no place
-  pub sits-off : (n : ℕ) → j < n → n ≤ length cs → 16 ≤ place → 16 ≡ seat_of own (take n cs) places i
+  pub sits-off : 16 ≤ place → None ≡ seat_of own cs places i
   unfolding seat_of
-  sits-off n m o p = rw (every-off (has_place places) 0 cs j n m o (le-ltb _ _ p)) refl
+  sits-off p =
+      let off = rw (take-length cs) at (every-off (has_place places) 0 cs j (length cs) l (omega arith) (le-ltb _ _ p)) in
+      rw off refl
 
-pub sits-all : (own : ℕ) (cs places : List ℕ) (i seat n : ℕ) → Sits own cs places i seat n → seat ≡ seat_of own (take n cs) places i
+pub sits-all : (own : ℕ) (cs places : List ℕ) (i seat : ℕ) → Sits own cs places i seat (length cs) → Some seat ≡ seat_of own cs places i
 unfolding seat_of
-sits-all own cs places i seat n s = rw s.all s.here
+sits-all own cs places i seat s =
+    let all = rw (take-length cs) at s.all in
+    rw all (ap Some (rw (take-length cs) at s.here))
 
 module _ (b : Board) (v : valid b ≡ true) (places : List ℕ) (known : Known b places) where
   -- a number has a place where it is on the board
@@ -111,7 +115,7 @@ module _ (b : Board) (v : valid b ≡ true) (places : List ℕ) (known : Known b
         omega (arith, get_or-take r.count r.companions k 0 (omega (arith, length-take r.count r.companions)), w.companions k (omega (arith, length-take r.count r.companions)))
 
     -- a companion that is not on the board has no place
-    pub seat-none : (i : ℕ) → every (on_board b) (companions_of r) ≡ false → seat_of own (companions_of r) places i ≡ 16
+    pub seat-none : (i : ℕ) → every (on_board b) (companions_of r) ≡ false → seat_of own (companions_of r) places i ≡ None
     unfolding seat_of
     seat-none i e = rw (every-placed (companions_of r) small, e) refl
 
@@ -127,12 +131,17 @@ module _ (b : Board) (v : valid b ≡ true) (places : List ℕ) (known : Known b
               let w = companion-at (companions_of r) small on own k (omega (arith, length-map (companions_of r) (one_unit b))) in
               (w.0, rw (lt-ltb 0 (suc k) (omega arith)) (sym w.1))
 
-      seat-is : seat_of own (companions_of r) places i ≡ get_or (own ∷ map (place_in places) (companions_of r)) i own
+      pub seat-is : seat_of own (companions_of r) places i ≡ Some (get_or (own ∷ map (place_in places) (companions_of r)) i own)
       unfolding seat_of
       seat-is = rw (every-placed (companions_of r) small, on) refl
 
-      pub seat-there : seat_of own (companions_of r) places i < b.len
-      seat-there = rw seat-is seat.0
+      -- where it stands
+      module _ (p : ℕ) (e : seat_of own (companions_of r) places i ≡ Some p) where
+        same : p ≡ get_or (own ∷ map (place_in places) (companions_of r)) i own
+        same = let s = seat-is in cc
 
-      pub seat-share : share_at b (seat_of own (companions_of r) places i) (cond (ltb 0 i) 1 usage) ≡ get_or (with_companions b r usage) i no_share
-      seat-share = rw seat-is seat.1
+        pub seat-there : p < b.len
+        seat-there = rw same seat.0
+
+        pub seat-share : share_at b p (cond (ltb 0 i) 1 usage) ≡ get_or (with_companions b r usage) i no_share
+        seat-share = rw same seat.1

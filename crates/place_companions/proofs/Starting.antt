@@ -10,14 +10,14 @@ use Rattle.timeline.specs.Earliest.{free_to, starts_at, earliest_resumable}
 use Rattle.timeline.specs.Ask.{AskReply, fit, none, refused, ended, resumed}
 use Rattle.timeline.specs.Theorems.Meaning.{resumable-means}
 
-pub start_in : AskReply → Found
+abbrev pub start_in : AskReply → Found
 start_in (fit s e) = at s
 start_in none = nothing
 start_in (refused n) = nothing
 
 module _ (t : ResourceTimeline) (v : valid t ≡ true) (from work u : ℕ) where
   start_of : (f : Found) → Answers (starts_at t work u) from f → start_in (resumed t work f) ≡ f
-  unfolding resumed ended start_in starts_at free_to
+  unfolding resumed ended starts_at free_to
   start_of nothing w = refl
   start_of (at s) w = go (joint_end (t.calendar ∷ []) s work) refl
     where
@@ -26,14 +26,5 @@ module _ (t : ResourceTimeline) (v : valid t ≡ true) (from work u : ℕ) where
       go (at d) h = refl
 
   -- so a reply gives the start away
-  pub resumable-start : (a : ℕ) (g : Found) → ended a g ≡ resumed t work (earliest_resumable t from work u) → start_in (ended a g) ≡ earliest_resumable t from work u
-  unfolding start_in
-  resumable-start a g e = ap start_in e ∙ start_of (earliest_resumable t from work u) (resumable-means t v from work u)
-
-pub start-some : (a e : ℕ) → start_in (ended a (at e)) ≡ at a
-unfolding start_in ended
-start-some a e = refl
-
-pub start_none : (a : ℕ) → start_in (ended a nothing) ≡ nothing
-unfolding start_in ended
-start_none a = refl
+  pub resumable-start : (r : AskReply) → r ≡ resumed t work (earliest_resumable t from work u) → start_in r ≡ earliest_resumable t from work u
+  resumable-start r e = ap start_in e ∙ start_of (earliest_resumable t from work u) (resumable-means t v from work u)

@@ -1,5 +1,5 @@
 -- The one of a resource and its companions that is asked next, as the code keeps it.
-use Rattle.std.specs.Prelude.{ℕ, max, cond, List, take, nat_lt}
+use Rattle.std.specs.Prelude.{ℕ, max, cond, List, take, nat_lt, None}
 use Rattle.activity.specs.declared.ResourceRequirement.{ResourceRequirement}
 use Rattle.activity.specs.Serving.{serves}
 use Rattle.place_plans.specs.declared.Plan.{Plan}
@@ -12,7 +12,7 @@ use Rattle.place_companions.specs.declared.Member.{Member}
 unfoldable pub member_of : ResourceRequirement → Plan → ℕ → List ℕ → ℕ → Asking → Member
 member_of q p own places t g =
     record {
-      place = cond (serves q p.number p.kind p.skills) (seat_of own (take p.count p.companions) places g.next) 16;
+      place = cond (serves q p.number p.kind p.skills) (seat_of own (take p.count p.companions) places g.next) None;
       units = cond (nat_lt 0 g.next) 1 q.usage;
       from = max (max t p.arrival) g.start;
     }

@@ -5,7 +5,7 @@
 // rules the resource out.
 #![tactic(auto)]
 
-ghost use Rattle.std.specs.Prelude.{◌≡◌, ℕ, ◌<◌, ◌≤◌, true, take, slice_index};
+ghost use Rattle.std.specs.Prelude.{◌≡◌, ℕ, ◌<◌, ◌≤◌, true, length, slice_index};
 ghost use Rattle.place_companions.specs.Seats.{seat_of};
 ghost use Rattle.calendar.specs.Limits.{last_asked, longest_span, never};
 ghost use Rattle.timeline.specs.Valid.{valid};
@@ -16,36 +16,25 @@ ghost use Rattle.place_companions.specs.Members.{member_of};
 
 use activity::ResourceRequirement;
 use calendar::limits::NEVER;
-use calendar_work::WorkEnd;
 use place_plans::Plan;
 use timeline::ResourceTimeline;
-use timeline_fit::Start;
 
-// The place of the i-th of a resource and its companions, the resource itself first; 16 where a companion has no place on the board.
-pub fn seat_of(
-    own: usize,
-    companions: [u8; 4],
-    count: usize,
-    places: [usize; 16],
-    i: usize,
-) -> usize
-    requires { (count ≤ 4) × ((k : ℕ) → k < count → slice_index companions k ≤ 15) }
-    ensures { result ≡ seat_of own (take count companions) places i }
+// The place of the i-th of a resource and its companions, the resource itself first; none where a companion has no place on the board.
+pub fn seat_of(own: usize, companions: &[u8], places: &[usize; 16], i: usize) -> Option<usize>
+    requires { (k : ℕ) → k < length companions.now → slice_index companions.now k ≤ 15 }
+    ensures { result ≡ seat_of own companions.now places.now i }
 {
     let mut seat = own;
-    let mut j: usize = 0;
-    while j < count {
-        let number = companions[j] as usize;
-        let place = places[number];
+    for (j, number) in companions.iter().enumerate() {
+        let place = places[usize::from(*number)];
         if place >= 16 {
-            return 16;
+            return None;
         }
-        j += 1;
-        if j == i {
+        if j + 1 == i {
             seat = place;
         }
     }
-    seat
+    Some(seat)
 }
 
 // How far the asking has come: those in front of the one to ask next can start at `start`. At 0 and 0 nobody is asked yet.
@@ -56,19 +45,22 @@ pub struct Asking {
 }
 
 // The least start on one diary, unbroken or resumable.
-pub fn start_on(t: ResourceTimeline, resumable: bool, span: u64, units: u32, from: u64) -> Start
+pub fn start_on(
+    t: ResourceTimeline,
+    resumable: bool,
+    span: u64,
+    units: u32,
+    from: u64,
+) -> Option<u64>
     requires { (valid t ≡ true) × (from ≤ last_asked) × (span ≤ longest_span) × (1 ≤ units) }
     ensures { start_of result ≡ start_on resumable span (record { timeline = t; units = units }) from }
 {
     if resumable {
-        let r = timeline_resume::earliest_resumable(t, from, span, units);
-        let end = r.end;
-        return match end {
-            WorkEnd::At(_) => Start::At(r.start),
-            WorkEnd::Nothing => Start::Nothing,
-        };
+        let (start, _) = timeline_resume::earliest_resumable(t, from, span, units)?;
+        Some(start)
+    } else {
+        timeline_fit::earliest_fit(t, from, span, units)
     }
-    timeline_fit::earliest_fit(t, from, span, units)
 }
 
 // The diary to ask after the i-th: the next, and the first again where the start has moved on past those in front.
@@ -76,13 +68,7 @@ pub fn next_asked(i: usize, stays: bool) -> usize
     requires { i < never }
     ensures { result ≡ next_asked i stays }
 {
-    if i == 0 {
-        return 1;
-    }
-    if stays {
-        return i + 1;
-    }
-    0
+    if i == 0 || stays { i + 1 } else { 0 }
 }
 
 pub fn unasked() -> Asking
@@ -92,27 +78,27 @@ pub fn unasked() -> Asking
 }
 
 // The i-th of at most five has answered, asked from an instant on. Where it has no start, none of the others is asked: 2^63, and past them.
-pub fn answered(i: usize, from: u64, s: Start) -> Asking
+pub fn answered(i: usize, from: u64, s: Option<u64>) -> Asking
     requires { i < never }
     ensures { result ≡ answered_by i from (start_of s) }
 {
     match s {
-        Start::At(x) => Asking {
+        Some(x) => Asking {
             start: x,
             next: next_asked(i, x == from),
         },
-        Start::Nothing => Asking {
+        None => Asking {
             start: NEVER,
             next: 5,
         },
     }
 }
 
-// The one of a resource and its companions that is asked next, by its place on the board: the units wanted of it, and from when on. The
-// place is 16 where the resource does not serve, or a companion is not on the board.
+// The one of a resource and its companions that is asked next, by its place on the board: the units wanted of it, and from when on. It has
+// no place where the resource does not serve, or a companion is not on the board.
 #[derive(Clone, Copy)]
 pub struct Member {
-    pub place: usize,
+    pub place: Option<usize>,
     pub units: u32,
     pub from: u64,
 }
@@ -121,22 +107,21 @@ pub fn member_of(
     q: ResourceRequirement,
     p: Plan,
     own: usize,
-    places: [usize; 16],
+    places: &[usize; 16],
     t: u64,
     g: Asking,
 ) -> Member
     requires { (p.number < 16) × (p.count ≤ 4) × ((k : ℕ) → k < p.count → slice_index p.companions k ≤ 15) }
-    ensures { result ≡ member_of q p own places t g }
+    ensures { result ≡ member_of q p own places.now t g }
 {
-    let companions = p.companions;
-    let mut place: usize = 16;
-    if activity::basics::serves(q, p.number, p.kind, p.skills) {
-        place = seat_of(own, companions, p.count, places, g.next);
-    }
-    let from = cells::later(t, p.arrival);
+    let place = if activity::basics::serves(q, p.number, p.kind, p.skills) {
+        seat_of(own, &p.companions[..p.count], places, g.next)
+    } else {
+        None
+    };
     Member {
-        place: place,
+        place,
         units: if 0 < g.next { 1 } else { q.usage },
-        from: cells::later(from, g.start),
+        from: t.max(p.arrival).max(g.start),
     }
 }

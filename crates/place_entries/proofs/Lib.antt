@@ -1,4 +1,4 @@
 -- Companions that join once each; the greatest setup; what is taken from the board for those held, and what it amounts to.
-mod Companions
+mod Once
 mod Greatest
 mod Parting

@@ -4,7 +4,7 @@ use Rattle.scheduler.specs.declared.Entry.{Entry}
 use Rattle.scheduler.specs.Fitting.{join_each}
 use Rattle.scheduler.specs.Entries.{companion_entry}
 use Rattle.place_entries.specs.declared.joining.Entries.{Entries}
-use Rattle.place_entries.specs.declared.joining.Companions.{Companions}
+use Rattle.place_entries.specs.declared.Companions.{Companions}
 
 abbrev pub entry_number : Entry → ℕ
 entry_number e = e.number

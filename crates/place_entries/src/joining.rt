@@ -4,7 +4,7 @@ ghost use Rattle.std.specs.Prelude.{◌≡◌, ◌≤◌, map, length, replicate
 ghost use Rattle.scheduler.specs.Fitting.{among};
 ghost use Rattle.cells.specs.Every.{Each};
 ghost use Rattle.scheduler.specs.Entries.{no_entry};
-ghost use Rattle.place_entries.specs.Cells.{entry_number, Small, first_entries, numbers_in, with_joined};
+ghost use Rattle.place_entries.specs.Cells.{entry_number, Small, first_entries, with_joined};
 
 use scheduler::Entry;
 
@@ -15,57 +15,34 @@ pub struct Entries {
     pub count: usize,
 }
 
-// The companions of those held, one behind another.
-#[derive(Clone, Copy)]
-pub struct Companions {
-    pub numbers: [u8; 32],
-    pub len: usize,
-}
-
 // No entry, and every cell blank.
 pub fn no_entries() -> Entries
     ensures { (result.count ≡ 0) × (result.entries ≡ replicate 24 no_entry) }
 {
-    let none = scheduler::no_entry();
     Entries {
-        entries: [none; 24],
+        entries: [scheduler::no_entry(); 24],
         count: 0,
     }
 }
 
 // An entry with this number is there.
-fn is_among(e: Entries, number: u8) -> bool
-    requires { e.count ≤ 24 }
-    ensures { result ≡ among number (map entry_number (first_entries e)) }
+fn is_among(entries: &[Entry], number: u8) -> bool
+    ensures { result ≡ among number (map entry_number entries.now) }
 {
-    let n = e.count;
-    let mut i: usize = 0;
-    while i < n {
-        let x = e.entries[i];
-        if x.number == number {
-            return true;
-        }
-        i += 1;
-    }
-    false
+    entries.iter().any(|x| x.number == number)
 }
 
 // Companions not already there join once each, setup 0, unit 1.
-pub fn join_each(e: Entries, list: Companions) -> Entries
-    requires { (e.count ≤ 8) × (list.len ≤ 32) × Each Small (numbers_in list) }
-    ensures { (result.count ≤ 24) × (length result.entries ≡ 24) × (first_entries result ≡ with_joined (first_entries e) (numbers_in list)) }
+pub fn join_each(e: Entries, companions: &[u8]) -> Entries
+    requires { (e.count ≤ 8) × Each Small companions.now }
+    ensures { (result.count ≤ 24) × (length result.entries ≡ 24) × (first_entries result ≡ with_joined (first_entries e) companions.now) }
 {
-    let n = list.len;
     let mut more = e;
-    let mut i: usize = 0;
-    while i < n {
-        let number = list.numbers[i];
-        if !is_among(more, number) {
-            let k = more.count;
-            more.entries[k] = scheduler::companion_entry(number);
-            more.count = k + 1;
+    for number in companions {
+        if !is_among(&more.entries[..more.count], *number) {
+            more.entries[more.count] = scheduler::companion_entry(*number);
+            more.count += 1;
         }
-        i += 1;
     }
     more
 }

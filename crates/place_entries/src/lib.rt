@@ -4,11 +4,11 @@
 
 use activity::Activity;
 use place_plans::Plan;
-use scheduler::Selection;
+use scheduler::{Entry, Selection};
 
 mod joining;
 
-ghost use Rattle.std.specs.Prelude.{◌≡◌, ℕ, ◌+◌, ◌<◌, ◌≤◌, ◌++◌, length, take, slice_index};
+ghost use Rattle.std.specs.Prelude.{◌≡◌, ℕ, ◌+◌, ◌≤◌, ◌++◌, length};
 ghost use Rattle.calendar.specs.Limits.{longest_span};
 ghost use Rattle.activity.specs.declared.Activity as ordered;
 ghost use Rattle.activity.specs.Lawful.{Lawful};
@@ -18,7 +18,7 @@ ghost use Rattle.cells.specs.Every.{Each};
 ghost use Rattle.place_entries.specs.Cells.{Small, first_entries, numbers_in};
 ghost use Rattle.place_entries.specs.Parts.{PlansKnown, PlansOfSomeBoard, PartsOf, EntriesHeld, HeldTogether};
 
-use joining::{Companions, join_each};
+use joining::join_each;
 pub use joining::{Entries, no_entries};
 
 // The entries of a placement, and its span.
@@ -28,119 +28,85 @@ pub struct Spanned {
     pub span: u64,
 }
 
-// What the entries take from the plans: the numbers held, which of them have a matrix, the setups of those, and the companions.
+// The companions of those held, one behind another: the first `len`.
+#[derive(Clone, Copy)]
+struct Companions {
+    numbers: [u8; 32],
+    len: usize,
+}
+
+// What the entries take from the plans: the numbers held, the setups of those that have a matrix, and the companions.
 #[derive(Clone, Copy)]
 struct Parts {
     numbers: [u8; 8],
-    matrices: [bool; 8],
-    setups: [u64; 8],
+    setups: [Option<u64>; 8],
     companions: Companions,
 }
 
-// The first `count` of `more` go behind the list.
-fn push_each(list: Companions, more: [u8; 4], count: usize) -> Companions
-    requires { (count ≤ 4) × (list.len + count ≤ 32) × Each Small (numbers_in list) × ((k : ℕ) → k < count → Small (slice_index more k)) }
-    ensures { (result.len ≡ list.len + count) × (numbers_in result ≡ numbers_in list ++ take count more) × Each Small (numbers_in result) }
+// These go behind the list.
+fn push_each(list: Companions, more: &[u8]) -> Companions
+    requires { (list.len + length more.now ≤ 32) × Each Small (numbers_in list) × Each Small more.now }
+    ensures { (result.len ≡ list.len + length more.now) × (numbers_in result ≡ numbers_in list ++ more.now) × Each Small (numbers_in result) }
 {
     let mut numbers = list.numbers;
-    let n = list.len;
-    let mut i: usize = 0;
-    while i < count {
-        numbers[n + i] = more[i];
-        i += 1;
-    }
-    Companions {
-        numbers: numbers,
-        len: n + count,
-    }
+    let len = list.len + more.len();
+    numbers[list.len..len].copy_from_slice(more);
+    Companions { numbers, len }
 }
 
 // What the plans of those held have.
-fn parts_of(plans: [Plan; 16], held: [Selection; 8], count: usize) -> Parts
-    requires { (count ≤ 8) × ((b : declared.Board) × (a : ordered.Activity) × (ready : ℕ) × PlansKnown b a ready plans held count) }
-    ensures { PartsOf plans held count result }
+fn parts_of(plans: &[Plan; 16], held: &[Selection]) -> Parts
+    requires { (length held.now ≤ 8) × ((b : declared.Board) × (a : ordered.Activity) × (ready : ℕ) × PlansKnown b a ready plans.now held.now) }
+    ensures { PartsOf plans.now held.now result }
 {
-    let mut numbers: [u8; 8] = [0; 8];
-    let mut matrices: [bool; 8] = [false; 8];
-    let mut setups: [u64; 8] = [0; 8];
-    let mut list = Companions {
+    let mut numbers = [0; 8];
+    let mut setups = [None; 8];
+    let mut companions = Companions {
         numbers: [0; 32],
         len: 0,
     };
-    let mut i: usize = 0;
-    while i < count {
-        let h = held[i];
-        let place = h.place;
-        let p = plans[place];
+    for (i, h) in held.iter().enumerate() {
+        let p = plans[h.place];
         numbers[i] = p.number;
-        matrices[i] = p.matrix;
         setups[i] = p.setup;
-        let companions = p.companions;
-        list = push_each(list, companions, p.count);
-        i += 1;
+        companions = push_each(companions, &p.companions[..p.count]);
     }
     Parts {
-        numbers: numbers,
-        matrices: matrices,
-        setups: setups,
-        companions: list,
+        numbers,
+        setups,
+        companions,
     }
 }
 
 // The entries of those held, `own` being the setup without a matrix.
-fn held_entries(p: Parts, held: [Selection; 8], count: usize, own: u64) -> Entries
-    requires { count ≤ 8 }
-    ensures { (result.count ≡ count) × (length result.entries ≡ 24) × EntriesHeld p held own count result.entries }
+fn held_entries(p: Parts, held: &[Selection], own: u64) -> Entries
+    requires { length held.now ≤ 8 }
+    ensures { (result.count ≡ length held.now) × (length result.entries ≡ 24) × EntriesHeld p held.now own result.entries }
 {
-    let numbers = p.numbers;
-    let matrices = p.matrices;
-    let setups = p.setups;
     let mut e = no_entries();
-    let mut i: usize = 0;
-    while i < count {
-        let h = held[i];
-        let setup = if matrices[i] { setups[i] } else { own };
-        e.entries[i] = scheduler::held_entry(numbers[i], setup, h.usage);
-        i += 1;
+    for (i, h) in held.iter().enumerate() {
+        e.entries[i] = scheduler::held_entry(p.numbers[i], p.setups[i].unwrap_or(own), h.usage);
     }
-    e.count = count;
+    e.count = held.len();
     e
 }
 
-fn greatest_setup(e: Entries) -> u64
-    requires { e.count ≤ 24 }
-    ensures { result ≡ greatest_setup (first_entries e) }
+fn greatest_setup(entries: &[Entry]) -> u64
+    ensures { result ≡ greatest_setup entries.now }
 {
-    let n = e.count;
-    let mut most: u64 = 0;
-    let mut i: usize = 0;
-    while i < n {
-        let x = e.entries[i];
-        if most < x.setup {
-            most = x.setup;
-        }
-        i += 1;
-    }
-    most
+    entries.iter().map(|x| x.setup).max().unwrap_or(0)
 }
 
 // The entries of those held and their companions, and the span: the greatest setup among those held, process and teardown.
-pub fn entries_of(plans: [Plan; 16], a: Activity, held: [Selection; 8], count: usize) -> Spanned
-    requires { Lawful a.duration a.timings × (a.category ≤ 15) × (count ≤ 8) × PlansOfSomeBoard a plans held count }
+pub fn entries_of(plans: &[Plan; 16], a: Activity, held: &[Selection]) -> Spanned
+    requires { Lawful a.duration a.timings × (a.category ≤ 15) × (length held.now ≤ 8) × PlansOfSomeBoard a plans.now held.now }
     ensures count_bound { (result.entries.count ≤ 24) × (length result.entries.entries ≡ 24) × (result.span ≤ longest_span) }
-    ensures held_together { (b : declared.Board) (ready : ℕ) → PlansKnown b a ready plans held count → HeldTogether b a held count result }
+    ensures held_together { (b : declared.Board) (ready : ℕ) → PlansKnown b a ready plans.now held.now → HeldTogether b a held.now result }
 {
-    let p = parts_of(plans, held, count);
-    let base = a.duration;
-    let timings = a.timings;
-    let numbers = p.numbers;
-    let d = activity::basics::duration_on(base, timings, numbers, count);
-    let e = held_entries(p, held, count, d.setup);
-    let span = greatest_setup(e) + d.process + d.teardown;
-    let list = p.companions;
-    let all = join_each(e, list);
-    Spanned {
-        entries: all,
-        span: span,
-    }
+    let p = parts_of(plans, held);
+    let d = activity::basics::duration_on(a.duration, a.timings, p.numbers, held.len());
+    let e = held_entries(p, held, d.setup);
+    let span = greatest_setup(&e.entries[..e.count]) + d.process + d.teardown;
+    let entries = join_each(e, &p.companions.numbers[..p.companions.len]);
+    Spanned { entries, span }
 }

@@ -30,6 +30,7 @@ use Rattle.board.specs.Laws.Knowing.{number-place}
 use Rattle.place_companions.proofs.Seating.{share_at}
 use Rattle.scheduler.specs.Entries.{no_entry}
 use Rattle.place_fit.specs.Closing.{EntriesOn}
+use Rattle.place_fit.specs.Asks.{Asks, those}
 
 entry-share : (b : Board) (n : ℕ) (es : List Entry) (k : ℕ) → n ≤ length es → k < n → get_or (shares_of b (take n es)) k no_share ≡ share_of b (get_or es k no_entry)
 entry-share b zero es k l h = absurd (omega arith)
@@ -37,30 +38,23 @@ entry-share b (suc n) [] k l h = absurd (omega arith)
 entry-share b (suc n) (e ∷ es) zero l h = refl
 entry-share b (suc n) (e ∷ es) (suc k) l h = entry-share b n es k (omega arith) (omega arith)
 
--- what the fitters ask for: the first diary is the order's own calendar
-pub record Asks (b : Board) (es : List Entry) (n : ℕ) (places : List ℕ) (first : ResourceTimeline) : Type 0 where
-  pub board : valid b ≡ true
-  pub known : Known b places
-  pub own : timeline.valid first ≡ true
-  pub entries : EntriesOn b es n
-
 -- the entry that is read for the i-th diary: its number and its place are below 16
 abbrev pub Small : List Entry → List ℕ → ℕ → Type 0
 Small es places i = ((get_or es (i - 1) no_entry).number < 16) × (get_or places (get_or es (i - 1) no_entry).number 0 < 16)
 
 module _ (b : Board) (es : List Entry) (n : ℕ) (first : ResourceTimeline) where
-  abbrev pub those : List Share
-  those = record { timeline = first; units = 1 } ∷ shares_of b (take n es)
+  abbrev all : List Share
+  all = those b es n first
 
   -- the instants at which something can first start on one of them
   abbrev pub instants : List ℕ
-  instants = events_of those
+  instants = events_of all
 
   module _ (places : List ℕ) (a : Asks b es n places first) where
-    pub asks-long : length those ≡ n + 1
+    pub asks-long : length all ≡ n + 1
     asks-long = let e = a.entries in omega (arith, length-map (take n es) (share_of b), length-take-le n es (omega (arith, e.few, e.long)))
 
-    pub asks-sound : Sound those
+    pub asks-sound : Sound all
     asks-sound = each_on a.own (entries-valid b a.board (take n es) (each-cells (λ e. on_board b e.number ≡ true) no_entry n es (λ k l m. (a.entries.each k l).0)))
 
     -- the entry that is read for the i-th diary: its number, its place and its share
@@ -74,23 +68,18 @@ module _ (b : Board) (es : List Entry) (n : ℕ) (first : ResourceTimeline) wher
       pub entry-small : Small es places i
       entry-small = (placed.0, omega (arith, placed.2, (rules_of b a.board).few))
 
-      pub read-share : share_at b (get_or places entry.number 0) entry.units ≡ get_or those i no_share
+      pub read-share : share_at b (get_or places entry.number 0) entry.units ≡ get_or all i no_share
       unfolding resource_in
       read-share =
           let z : i ≡ suc (i - 1) = omega arith in
           let w = entry-share b n es (i - 1) (omega (arith, a.entries.few, a.entries.long)) (omega arith) ∙ ap (λ (f : Found). record { timeline = (resource_in b f).timeline; units = entry.units }) placed.1 in
-          sym (ap (λ (k : ℕ). get_or those k no_share) z ∙ w)
-
-    -- the first is read where none is before it
-    pub own-share : (i : ℕ) → i ≤ 0 → record { timeline = first; units = 1 } ≡ get_or those i no_share
-    own-share zero l = refl
-    own-share (suc i) l = absurd (omega arith)
+          sym (ap (λ (k : ℕ). get_or all k no_share) z ∙ w)
 
     -- each diary keeps the rules, and at least a unit is wanted of it
-    pub asks-kept : (i : ℕ) → i < n + 1 → timeline.valid (get_or those i no_share).timeline ≡ true
-    asks-kept i l = each_at (λ x. timeline.valid x.timeline ≡ true) no_share those asks-sound i (omega (arith, asks-long))
+    pub asks-kept : (i : ℕ) → i < n + 1 → timeline.valid (get_or all i no_share).timeline ≡ true
+    asks-kept i l = each_at (λ x. timeline.valid x.timeline ≡ true) no_share all asks-sound i (omega (arith, asks-long))
 
-    pub asks-some : (i : ℕ) → i < n + 1 → 1 ≤ (get_or those i no_share).units
+    pub asks-some : (i : ℕ) → i < n + 1 → 1 ≤ (get_or all i no_share).units
     asks-some zero l = omega arith
     asks-some (suc i) l = rw (entry-share b n es i (omega (arith, a.entries.few, a.entries.long)) (omega arith)) (a.entries.each i (omega arith)).1
 

@@ -1,5 +1,5 @@
 -- 01, 'Fitting': what the fitters are given and what they answer.
-use Rattle.std.specs.Prelude.{ℕ, ◌≤◌, ◌<◌, ◌≡◌, Bool, true, List, length, get_or}
+use Rattle.std.specs.Prelude.{ℕ, ◌≤◌, ◌<◌, ◌≡◌, Bool, true, List, length, get_or, Option, Some, None}
 use Rattle.calendar.specs.declared.Calendar.{Calendar}
 use Rattle.calendar.specs.Limits.{last_asked, longest_span}
 use Rattle.calendar.specs.Valid as calendar
@@ -14,8 +14,6 @@ use Rattle.scheduler.specs.Alone.{Share}
 use Rattle.scheduler.specs.Fitting.{fitting, end_of}
 use Rattle.place_entries.specs.declared.joining.Entries.{Entries}
 use Rattle.scheduler.specs.Entries.{no_entry}
-use Rattle.place_fit.specs.declared.Fit.{Fit}
-use Rattle.place_fit.specs.declared.Fit.TheVariants.{At, Nothing}
 
 -- n entries, for resources on the board and one unit or more each
 pub record EntriesOn (b : Board) (es : List Entry) (n : ℕ) : Type 0 where
@@ -38,6 +36,6 @@ with_end resumable xs own span (at s) = asking.ended s (end_of resumable xs own 
 unfoldable pub closing : Bool → List Share → Calendar → ℕ → ℕ → asking.AskReply
 closing resumable xs own span from = with_end resumable xs own span (fitting resumable xs own span from)
 
-unfoldable pub fit_of : Fit → asking.AskReply
-fit_of (At s e) = asking.fit s e
-fit_of Nothing = asking.none
+unfoldable pub fit_of : Option (ℕ × ℕ) → asking.AskReply
+fit_of (Some f) = asking.fit f.0 f.1
+fit_of None = asking.none

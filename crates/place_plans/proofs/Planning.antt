@@ -5,7 +5,7 @@ use native.Mathlib.Omega.{arith}
 use lib.ListN.{length-set}
 use Rattle.activity.specs.declared.Activity.{Activity}
 use Rattle.activity.specs.declared.ActivityDuration.{ActivityDuration}
-use Rattle.activity.specs.declared.Timed.{Timed}
+use Rattle.activity.specs.declared.ResourceTiming.{ResourceTiming}
 use Rattle.activity.specs.Check.{activity_refusal}
 use Rattle.activity.specs.Durations.{duration_on}
 use Rattle.activity.specs.Lawful.{Lawful}
@@ -44,7 +44,7 @@ module _ (b : Board) (a : Activity) (ready : ℕ) (v : valid b ≡ true) (e : ac
   unfolding arrival
   arrival-is i l = rw (transport-is b v a.origins (number_at b i) (number_small i l)) refl
 
-module _ (r : Resource) (base : ActivityDuration) (timings : List Timed) (category : ℕ) (h : resource_right r ≡ true) (w : Lawful base timings) (l : category ≤ 15) where
+module _ (r : Resource) (base : ActivityDuration) (timings : List ResourceTiming) (category : ℕ) (h : resource_right r ≡ true) (w : Lawful base timings) (l : category ≤ 15) where
   pub lasting-small : (d : ActivityDuration) → d ≡ duration_on base timings (r.number ∷ []) → Bounded d × (setup_on r category d.setup ≤ 2 ^ 36)
   lasting-small d e =
       let s = resource-rules r h in

@@ -1,5 +1,6 @@
 -- What an order needs of each resource alone, as the code keeps it, by the resource's place on the board.
-use Rattle.std.specs.Prelude.{◌≡◌, ℕ, ◌+◌, ◌<◌, ◌≤◌, false, List, [], length, replicate, slice_index_or}
+use Rattle.std.specs.Prelude.{◌≡◌, ℕ, ◌+◌, ◌<◌, ◌≤◌, List, [], length, replicate, slice_index_or, None}
+use Rattle.std.specs.Bool.{then_some}
 use Rattle.calendar.specs.Limits.{last_asked}
 use Rattle.activity.specs.declared.Activity.{Activity}
 use Rattle.board.specs.declared.Resource.{Resource}
@@ -22,8 +23,7 @@ no_plan = record {
   span = 0;
   process = 0;
   arrival = 0;
-  matrix = false;
-  setup = 0;
+  setup = None;
 }
 
 -- before anything is planned
@@ -37,8 +37,7 @@ blank_plan = record {
   span = 0;
   process = 0;
   arrival = 0;
-  matrix = false;
-  setup = 0;
+  setup = None;
 }
 
 -- the plan of a resource that is reached at an instant
@@ -53,8 +52,7 @@ plan_with a r arrives =
       span = span_alone a r;
       process = (duration_alone a r).process;
       arrival = arrives;
-      matrix = r.matrix.present;
-      setup = setup_on r a.category 0;
+      setup = then_some r.matrix.present (setup_on r a.category 0);
     }
 
 -- when a resource is reached from ready on, by the transport to it from where the order comes from

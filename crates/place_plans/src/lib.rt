@@ -10,9 +10,9 @@ ghost use Rattle.place_plans.specs.Plans.{blank_plan, plan_with, arrival_by, InR
 use activity::Activity;
 use board::Resource;
 
-// A resource with its companions, its span, process time and arrival, whether it has a matrix, and the setup by that: none of them changes
+// A resource with its companions, its span, process time and arrival, and the setup by its matrix where it has one: none of them changes
 // from round to round.
-#[derive(Clone, Copy)]
+#[derive(Clone, Copy, Default)]
 pub struct Plan {
     pub number: u8,
     pub kind: u8,
@@ -22,27 +22,14 @@ pub struct Plan {
     pub span: u64,
     pub process: u64,
     pub arrival: u64,
-    pub matrix: bool,
-    pub setup: u64,
+    pub setup: Option<u64>,
 }
 
 // Nothing is planned yet.
 pub fn no_plans() -> [Plan; 16]
     ensures { result ≡ replicate 16 blank_plan }
 {
-    let none = Plan {
-        number: 0,
-        kind: 0,
-        skills: 0,
-        companions: [0; 4],
-        count: 0,
-        span: 0,
-        process: 0,
-        arrival: 0,
-        matrix: false,
-        setup: 0,
-    };
-    [none; 16]
+    [Plan::default(); 16]
 }
 
 // The plan of a resource, from ready on.
@@ -50,23 +37,21 @@ pub fn plan_of(r: Resource, a: Activity, ready: u64, transport: &[u64; 256]) -> 
     requires { (resource_right r ≡ true) × Lawful a.duration a.timings × (a.category ≤ 15) × InReach transport.now a ready r }
     ensures { result ≡ plan_with a r (arrival_by transport.now a ready r) }
 {
-    let base = a.duration;
-    let timings = a.timings;
-    let d = activity::basics::duration_on(base, timings, [r.number; 8], 1);
-    let matrix = r.matrix;
-    let last = r.last;
-    let companions = r.companions;
-    let setup = board_setups::setup_ms(matrix, last, a.category, d.setup);
+    let companions = r.companions; // a variable: an array goes into a struct from one
+    let d = activity::basics::duration_on(a.duration, a.timings, [r.number; 8], 1);
+    let setup = board_setups::setup_ms(r.matrix, r.last, a.category, d.setup);
     Plan {
         number: r.number,
         kind: r.kind,
         skills: r.skills,
-        companions: companions,
+        companions,
         count: r.count,
         span: setup + d.process + d.teardown,
         process: d.process,
         arrival: ready + board_setups::transport_between(transport, a.origins, r.number),
-        matrix: matrix.present,
-        setup: board_setups::setup_ms(matrix, last, a.category, 0),
+        setup: r
+            .matrix
+            .present
+            .then_some(board_setups::setup_ms(r.matrix, r.last, a.category, 0)),
     }
 }

@@ -3,7 +3,7 @@ use mathlib.Core.Path.{◌≡◌, refl, sym, ap, ◌∙◌, subst}
 use mathlib.Core.Bool.{Bool, true, false, ◌&&◌, cond, and-true}
 use mathlib.Core.List.{List, [], ◌∷◌, ◌++◌, map}
 use mathlib.Core.Logic.{◌⊎◌, inl, inr, ⊎_elim}
-use Prim.Native.Nat.{ℕ, zero, suc, ◌+◌, ◌-◌, ◌*◌, ◌^◌, ◌≤◌, ◌<◌}
+use Prim.Native.Nat.{ℕ, zero, suc, ◌+◌, ◌^◌, ◌≤◌, ◌<◌, min}
 use native.Mathlib.Omega.{arith}
 use lib.ListN.{length, get_or, set, take, length-set}
 use lib.Seq.{take_all, get_or-set_same, get_or-set_other}
@@ -12,7 +12,7 @@ use borrow.Author.Tests.{le-leb, lt-ltb, ltb-true, eq-eqb}
 use Rattle.cells.specs.Every.{every, each_end, each_on}
 use Rattle.cells.specs.Laws.Every.{every_append}
 use Rattle.calendar.specs.declared.Calendar.{Calendar}
-use Rattle.cells.specs.Laws.Basics.{not-both, same_or_not, or-in-left, or-in-right, take_next}
+use Rattle.cells.specs.Laws.Basics.{lt-or-ge, same_or_not, or-in-left, or-in-right, take_next}
 use Rattle.calendar.specs.Search.{Found, nothing, at, when}
 use Rattle.calendar.specs.Laws.Searching.{not_at}
 use Rattle.calendar.specs.Work.{joint, joint_end}
@@ -35,10 +35,15 @@ use Rattle.cells.specs.Laws.Arrays.{each_at, cells-map}
 use Rattle.scheduler.specs.Instants.{events, events_of, above}
 use Rattle.scheduler.specs.Laws.Events.{among-left, among-right, above-falls}
 use Rattle.scheduler.specs.Laws.Asking.{share-event}
-use Rattle.timeline_candidates.specs.Steps.{Listed, Event}
+use Rattle.timeline_candidates.specs.Steps.{Listed, Event, NextEvent}
+use Rattle.timeline.specs.Laws.Stepping.{next-still}
+use Rattle.std.specs.Prelude.{Option, Some, None}
+use Rattle.std.specs.Bool.{then_some}
+use Rattle.calendar.specs.Work.{work_end}
+use Rattle.cells.specs.Cells.{before}
 use Rattle.scheduler.specs.Laws.Together.{Sound, Calm}
 use Rattle.scheduler.specs.Laws.Owning.{suits_on, least_on}
-use Rattle.place_resume.specs.Trials.{end_if, EndKept}
+use Rattle.place_resume.specs.Trials.{if_free, end_found}
 use Rattle.place_resume.proofs.Resuming.{end_free, Least, found, onward, over}
 
 -- with no diary asked, the joint end itself
@@ -52,249 +57,147 @@ free_more : (xs : List Share) (x : Share) (s e : ℕ) → all_free (xs ++ (x ∷
 unfolding all_free every
 free_more xs x s e = every_append (λ (y : Share). free_on y.timeline y.units s e) xs (x ∷ []) ∙ ap (λ (p : Bool). all_free xs s e && p) (and-true (free_on x.timeline x.units s e))
 
-end_more : (xs : List Share) (x : Share) (s e : ℕ) (free : Bool) (f : Found) → end_if free e ≡ end_free xs s f → end_if (free && free_on x.timeline x.units s e) e ≡ end_free (xs ++ (x ∷ [])) s f
-unfolding end_free when
-end_more xs x s e true nothing h = absurd (not_at e (sym h))
-end_more xs x s e false nothing h = refl
-end_more xs x s e free (at d) h = go free (all_free xs s d) refl h
+end_more : (xs : List Share) (x : Share) (s : ℕ) (end : Option ℕ) (f : Found) → end_found end ≡ end_free xs s f → end_found (if_free x.timeline x.units s end) ≡ end_free (xs ++ (x ∷ [])) s f
+unfolding end_found if_free end_free when
+end_more xs x s (Some e) nothing h = absurd (not_at e (sym h))
+end_more xs x s None nothing h = refl
+end_more xs x s (Some e) (at d) h = go (all_free xs s d) (free_on x.timeline x.units s e) refl refl h
   where
-    go : (p q : Bool) → all_free xs s d ≡ q → end_if p e ≡ cond q (at d) nothing → end_if (p && free_on x.timeline x.units s e) e ≡ cond (all_free (xs ++ (x ∷ [])) s d) (at d) nothing
-    go true true k j =
+    go : (q p : Bool) → all_free xs s d ≡ q → free_on x.timeline x.units s e ≡ p → at e ≡ cond q (at d) nothing → end_found (then_some p e) ≡ cond (all_free (xs ++ (x ∷ [])) s d) (at d) nothing
+    go false p k m j = absurd (not_at e (sym j))
+    go true p k m j =
         let z : e ≡ d = ap when j in
-        rw (free_more xs x s d, k, z) refl
-    go true false k j = absurd (not_at e (sym j))
-    go false true k j = absurd (not_at d j)
-    go false false k j = rw (free_more xs x s d, k) refl
+        let w = free_more xs x s d ∙ rw (k, ← z, m) refl in
+        ends p w z
+      where
+        ends : (p : Bool) → all_free (xs ++ (x ∷ [])) s d ≡ p → e ≡ d → end_found (then_some p e) ≡ cond (all_free (xs ++ (x ∷ [])) s d) (at d) nothing
+        ends true w z = rw (w, z) refl
+        ends false w z = rw w refl
+end_more xs x s None (at d) h = go (all_free xs s d) refl h
+  where
+    go : (q : Bool) → all_free xs s d ≡ q → nothing ≡ cond q (at d) nothing → nothing ≡ cond (all_free (xs ++ (x ∷ [])) s d) (at d) nothing
+    go true k j = absurd (not_at d j)
+    go false k j = rw (free_more xs x s d, k) refl
 
 module _ (xs : List Share) (n work from : ℕ) (stops : List ℕ) where
   abbrev end-from : ℕ → Found
   end-from x = joint_end (map calendar_of xs) x work
 
   -- the first i are asked at `here`
-  pub record Tried (here end : ℕ) (free : Bool) (next i : ℕ) : Type 0 where
-    pub ends : end_if free end ≡ end_free (take i xs) here (end-from here)
+  pub record Tried (here : ℕ) (end : Option ℕ) (next i : ℕ) : Type 0 where
+    pub ends : end_found end ≡ end_free (take i xs) here (end-from here)
     pub later : here < next
     pub listed : (next ≡ 2 ^ 63) ⊎ (among next stops ≡ true)
     pub most : next ≤ 2 ^ 63
     pub calm : (y : ℕ) → here ≤ y → suc y < next → Calm (suc y) (take i xs)
 
-  -- the joint time is not laid out yet, and the calendars of the first i are gathered
-  pub record Gathers (cs : List Calendar) (here : ℕ) (free : Bool) (next i : ℕ) : Type 0 where
-    pub start : here ≡ from
-    pub begin : next ≡ from
-    pub none : free ≡ false
+  -- the calendars of the first i are gathered
+  pub record Gathers (cs : List Calendar) (i : ℕ) : Type 0 where
+    pub long : length cs ≡ 25
     pub cells : (k : ℕ) → k < i → get_or cs k no_calendar ≡ (get_or xs k no_share).timeline.calendar
 
-  -- it is laid out, and nothing suits before `here`
-  pub record Walks (edges : List ℕ) (len here end : ℕ) (free : Bool) (next i : ℕ) : Type 0 where
+  -- their joint time is laid out, and nothing suits before `here`
+  pub record Walks (edges : List ℕ) (len here : ℕ) : Type 0 where
     pub short : len ≤ 3201
     pub layout : Layout (λ p. leb from p && joint (map calendar_of xs) p) edges len
     pub sought : Sought (suits_on true xs work) from here
-    pub tried : here < 2 ^ 63 → Tried here end free next i
+    pub most : here ≤ 2 ^ 63
 
   -- one calendar more
-  gathers-next : (cs : List Calendar) (here : ℕ) (free : Bool) (next i : ℕ) → Gathers cs here free next i → i < length cs → Gathers (set cs i (get_or xs i no_share).timeline.calendar) here free next (i + 1)
-  gathers-next cs here free next i g l = record {
-    start = g.start;
-    begin = g.begin;
-    none = g.none;
+  pub gathers-next : (cs : List Calendar) (i : ℕ) → Gathers cs i → i < 25 → (c : Calendar) → c ≡ (get_or xs i no_share).timeline.calendar → Gathers (set cs i c) (i + 1)
+  gathers-next cs i g l c z = record {
+    long = length-set cs i c ∙ g.long;
     cells = λ k h.
         ⊎_elim
-        (λ (e : i ≡ k). rw (← e) (get_or-set_same cs i _ no_calendar l))
-        (λ (e : k ≡ i → ⊥). get_or-set_other cs i k _ no_calendar e ∙ g.cells k (omega (arith, e)))
+        (λ (e : i ≡ k). rw (← e) (get_or-set_same cs i c no_calendar (omega (arith, g.long)) ∙ z))
+        (λ (e : k ≡ i → ⊥). get_or-set_other cs i k c no_calendar e ∙ g.cells k (omega (arith, e)))
         (same_or_not i k);
   }
 
   module _ (sound : Sound xs) (long : length xs ≡ n) where
     -- all calendars keep the rules, and are those of all diaries
-    pub gathers-ruled : (cs : List Calendar) (here : ℕ) (free : Bool) (next i : ℕ) → Gathers cs here free next i → n ≤ i → Ruled cs n
-    gathers-ruled cs here free next i g l k h = ap calendar.valid (g.cells k (omega arith)) ∙ (rules_of _ (each_at (λ x. valid x.timeline ≡ true) no_share xs sound k (omega (arith, long)))).calendar
+    pub gathers-ruled : (cs : List Calendar) → Gathers cs n → Ruled cs n
+    gathers-ruled cs g k h = ap calendar.valid (g.cells k h) ∙ (rules_of _ (each_at (λ x. valid x.timeline ≡ true) no_share xs sound k (omega (arith, long)))).calendar
 
-    gathers-all : (cs : List Calendar) (here : ℕ) (free : Bool) (next i : ℕ) → Gathers cs here free next i → n ≤ i → n ≤ length cs → take n cs ≡ map calendar_of xs
-    gathers-all cs here free next i g l m = cells-map calendar_of no_share no_calendar n xs cs (omega (arith, long)) m (λ k h. g.cells k (omega arith)) ∙ ap (map calendar_of) (take_all n xs (omega (arith, long)))
+    gathers-all : (cs : List Calendar) → Gathers cs n → n ≤ 25 → take n cs ≡ map calendar_of xs
+    gathers-all cs g m = cells-map calendar_of no_share no_calendar n xs cs (omega (arith, long)) (omega (arith, g.long)) (λ k h. g.cells k (omega arith)) ∙ ap (map calendar_of) (take_all n xs (omega (arith, long)))
 
-    -- an instant to try, with no diary asked
-    walks-begin : (edges : List ℕ) (len here end : ℕ) (free : Bool) → len ≤ 3201 → Layout (λ p. leb from p && joint (map calendar_of xs) p) edges len → Sought (suits_on true xs work) from here
-        → EndKept edges len work here free end → Walks edges len here end free (2 ^ 63) 0
-    walks-begin edges len here end free short y s e = record {
+    -- the joint time is laid out: the walk begins at `from`
+    pub walks-begin : (cs : List Calendar) (edges : List ℕ) (len : ℕ) → Gathers cs n → n ≤ 25 → from ≤ 2 ^ 63 → len ≤ 3201 → Layout (λ p. leb from p && joint (take n cs) p) edges len → Walks edges len from
+    walks-begin cs edges len g m f short y = record {
       short = short;
-      layout = y;
-      sought = s;
-      tried = λ l. record {
-        ends = e l ∙ layout-end (map calendar_of xs) (λ p. leb from p && joint (map calendar_of xs) p) edges len here work y (λ p h. rw (le-leb from p (omega (arith, s.low))) refl) ∙ end-none-asked here (end-from here);
+      layout = subst (λ (zs : List Calendar). Layout (λ p. leb from p && joint zs p) edges len) (gathers-all cs g m) y;
+      sought = sought-start _ from;
+      most = f;
+    }
+
+    module _ (edges : List ℕ) (len here : ℕ) (w : Walks edges len here) (l : here < 2 ^ 63) where
+      -- an instant to try, with no diary asked
+      pub tried-none : (end : Option ℕ) → end_found end ≡ work_end (before edges len) (laid edges len) here work → Tried here end (2 ^ 63) 0
+      tried-none end e = record {
+        ends = e ∙ layout-end (map calendar_of xs) (λ p. leb from p && joint (map calendar_of xs) p) edges len here work w.layout (λ p h. rw (le-leb from p (omega (arith, w.sought.low))) refl) ∙ end-none-asked here (end-from here);
         later = l;
         listed = inl refl;
         most = omega arith;
         calm = λ z a b. each_end;
-      };
-    }
+      }
 
-    -- one diary more asked
-    walks_next : (edges : List ℕ) (len here end : ℕ) (free : Bool) (next i : ℕ) → i < n → Walks edges len here end free next i → here < 2 ^ 63 → (later : ℕ) → here < later → later ≤ next → (later ≡ next) ⊎ (among later stops ≡ true)
-        → ((y : ℕ) → here ≤ y → suc y < later → Still (get_or xs i no_share).timeline (suc y)) → Walks edges len here end (free && free_on (get_or xs i no_share).timeline (get_or xs i no_share).units here end) later (i + 1)
-    walks_next edges len here end free next i m w l later a b on still =
-        let t = w.tried l in
-        let more = take_next xs i no_share (omega (arith, long)) in
-        record {
-          short = w.short;
-          layout = w.layout;
-          sought = w.sought;
-          tried = λ z. record {
-            ends = end_more (take i xs) (get_or xs i no_share) here end free (end-from here) t.ends ∙ ap (λ (ys : List Share). end_free ys here (end-from here)) (sym more);
-            later = a;
-            listed = ⊎_elim (λ (z : later ≡ next). rw z t.listed) inr on;
+      -- one diary more asked
+      pub tried-next : (end : Option ℕ) (next i : ℕ) → i < n → Tried here end next i → (d : ResourceTimeline) (u c : ℕ) → record { timeline = d; units = u } ≡ get_or xs i no_share → ((y : ℕ) → 1 ≤ y → Event d y → among y stops ≡ true) → NextEvent d here c
+          → Tried here (if_free d u here end) (min next c) (i + 1)
+      tried-next end next i m t d u c e on v =
+          let more = take_next xs i no_share (omega (arith, long)) in
+          let x : Share = record { timeline = d; units = u } in
+          let zs : take (i + 1) xs ≡ take i xs ++ (x ∷ []) = rw e more in
+          record {
+            ends = end_more (take i xs) x here end (end-from here) t.ends ∙ ap (λ (ys : List Share). end_free ys here (end-from here)) (sym zs);
+            later = omega (arith, t.later, v.next.above);
+            listed = least (lt-or-ge c next);
             most = omega (arith, t.most);
-            calm = λ y p q. subst (Calm (suc y)) (sym more) (each_append (λ x. Still x.timeline (suc y)) (take i xs) (get_or xs i no_share ∷ []) (t.calm y p (omega arith)) (each_on (still y p q) each_end));
-          };
-        }
+            calm = λ y p q. subst (Calm (suc y)) (sym zs) (each_append (λ x. Still x.timeline (suc y)) (take i xs) (x ∷ []) (t.calm y p (omega (arith, q))) (each_on (next-still d here c y v.next p (omega (arith, q))) each_end));
+          }
+        where
+          least : (c < next) ⊎ (next ≤ c) → (min next c ≡ 2 ^ 63) ⊎ (among (min next c) stops ≡ true)
+          least (inl h) =
+              let z : min next c ≡ c = omega arith in
+              rw z (⊎_elim inl (λ (o : Event d c). inr (on c (omega (arith, v.next.above)) o)) v.is)
+          least (inr h) =
+              let z : min next c ≡ next = omega arith in
+              rw z t.listed
 
-    module _ (edges : List ℕ) (len here end : ℕ) (free : Bool) (next i : ℕ) (w : Walks edges len here end free next i) (l : here < 2 ^ 63) (z : i ≡ n) where
-      whole : take i xs ≡ xs
-      whole = take_all i xs (omega (arith, z, long))
+      module _ (end : Option ℕ) (next : ℕ) (t : Tried here end next n) where
+        ends-all : end_found end ≡ end_free xs here (end-from here)
+        ends-all = t.ends ∙ ap (λ (ys : List Share). end_free ys here (end-from here)) (take_all n xs (omega (arith, long)))
 
-      ends-all : end_if free end ≡ end_free xs here (end-from here)
-      ends-all = (w.tried l).ends ∙ ap (λ (ys : List Share). end_free ys here (end-from here)) whole
+        -- all are free: the least start
+        pub walks-found : (e : ℕ) → end ≡ Some e → Least xs work from here e
+        unfolding end_found
+        walks-found e z = found xs sound work from here e w.sought (sym ends-all ∙ ap end_found z)
 
-      -- all are free: the least start
-      walks-found : free ≡ true → Least xs work from here end
-      walks-found e = found xs sound work from here end w.sought (sym ends-all ∙ rw e refl)
-
-      -- one is not: the search goes on at the next instant
-      walks-on : free ≡ false → Sought (suits_on true xs work) from next
-      walks-on e =
-          onward xs sound work from here next w.sought (sym ends-all ∙ rw e refl) (w.tried l).later
-          (λ y a b. subst (Calm (suc y)) whole ((w.tried l).calm y a b))
-
-    walks-over : (edges : List ℕ) (len here end : ℕ) (free : Bool) (next i : ℕ) → Walks edges len here end free next i → from ≤ 2 ^ 43 → 2 ^ 63 ≤ here → least_on true xs work from ≡ nothing
-    walks-over edges len here end free next i w f l = over xs sound work from here f l w.sought
-
-  -- the walk at the i-th diary: the calendars are gathered, then instants are tried
-  pub record State (cs : List Calendar) (edges : List ℕ) (len here end : ℕ) (free : Bool) (next : ℕ) (laid : Bool) (i : ℕ) : Type 0 where
-    pub few : i ≤ n
-    pub cells : length cs ≡ 25
-    pub wide : length edges ≡ 3201
-    pub most : here ≤ 2 ^ 63
-    pub gathers : laid ≡ false → Gathers cs here free next i
-    pub walks : laid ≡ true → Walks edges len here end free next i
-
-  pub state-start : (cs : List Calendar) (edges : List ℕ) (len here end : ℕ) (free : Bool) (next : ℕ) (laid : Bool) → length cs ≡ 25 → length edges ≡ 3201 → here ≡ from → free ≡ false → next ≡ from → laid ≡ false → from ≤ 2 ^ 63
-      → State cs edges len here end free next laid 0
-  state-start cs edges len here end free next laid p q a f b g l = record {
-    few = omega arith;
-    cells = p;
-    wide = q;
-    most = omega arith;
-    gathers = λ e. record { start = a; begin = b; none = f; cells = λ k h. absurd (omega arith) };
-    walks = λ e. absurd (not-both laid e g);
-  }
-
-  module _ (cs : List Calendar) (edges : List ℕ) (len here end : ℕ) (free : Bool) (next : ℕ) (laid : Bool) (i : ℕ) (s : State cs edges len here end free next laid i) (l : i < n) where
-    pub state-cell : laid ≡ false → n ≤ 25 → (c : Calendar) → c ≡ (get_or xs i no_share).timeline.calendar → State (set cs i c) edges len here end free next laid (i + 1)
-    state-cell e m c z = record {
-      few = omega arith;
-      cells = length-set cs i c ∙ s.cells;
-      wide = s.wide;
-      most = s.most;
-      gathers = λ f. rw z (gathers-next cs here free next i (s.gathers e) (omega (arith, s.cells)));
-      walks = λ f. absurd (not-both laid f e);
-    }
-
-    pub state-asked : Sound xs → length xs ≡ n → laid ≡ true → here < 2 ^ 63 → (x y : ℕ) (p : Bool) (z : ℕ) (q : Bool) (d : ResourceTimeline) (u : ℕ) → d ≡ (get_or xs i no_share).timeline → u ≡ (get_or xs i no_share).units → x ≡ here → y ≡ end → q ≡ laid
-        → p ≡ free && free_on d u here end → here < z → z ≤ next → (z ≡ next) ⊎ (among z stops ≡ true) → ((t : ℕ) → here ≤ t → suc t < z → Still d (suc t)) → State cs edges len x y p z q (i + 1)
-    state-asked sound long e h x y p z q d u a b ex ey eq ep m k on still = record {
-      few = omega arith;
-      cells = s.cells;
-      wide = s.wide;
-      most = omega (arith, s.most);
-      gathers = λ f. absurd (not-both laid e (sym eq ∙ f));
-      walks = λ f. rw (ex, ey, ep, a, b) (walks_next sound long edges len here end free next i l (s.walks e) h z m k on (λ t g j. subst (λ (r : ResourceTimeline). Still r (suc t)) a (still t g j)));
-    }
-
-  -- what is laid out, and where the next trial begins
-  pub record Onward (edges : List ℕ) (len next : ℕ) : Type 0 where
-    pub wide : length edges ≡ 3201
-    pub short : len ≤ 3201
-    pub layout : Layout (λ p. leb from p && joint (map calendar_of xs) p) edges len
-    pub sought : Sought (suits_on true xs work) from next
-    pub most : next ≤ 2 ^ 63
-
-  module _ (sound : Sound xs) (long : length xs ≡ n) (cs : List Calendar) (edges : List ℕ) (len here end : ℕ) (free : Bool) (next : ℕ) (laid : Bool) (i : ℕ) (s : State cs edges len here end free next laid i) (l : n ≤ i) where
-    -- the joint time laid out
-    pub onward-laid : laid ≡ false → from ≤ 2 ^ 43 → n ≤ 25 → (es : List ℕ) (m : ℕ) → length es ≡ 3201 → m ≤ 3201 → Layout (λ p. leb from p && joint (take n cs) p) es m → Onward es m next
-    onward-laid e r few es m wide short y =
-        let g = s.gathers e in
-        record {
-          wide = wide;
-          short = short;
-          layout = subst (λ (zs : List Calendar). Layout (λ p. leb from p && joint zs p) es m) (gathers-all sound long cs here free next i g l (omega (arith, s.cells))) y;
-          sought = rw g.begin (sought-start _ from);
-          most = omega (arith, g.begin);
-        }
-
-    -- an instant tried on all in vain
-    pub onward-next : laid ≡ true → here < 2 ^ 63 → free ≡ false → Onward edges len next
-    onward-next e h f =
-        let w = s.walks e in
-        let z : i ≡ n = omega (arith, s.few) in
-        record {
-          wide = s.wide;
+        -- one is not: the search goes on at the next instant
+        pub walks-on : end ≡ None → Walks edges len next
+        unfolding end_found
+        walks-on z = record {
           short = w.short;
           layout = w.layout;
-          sought = walks-on sound long edges len here end free next i w h z f;
-          most = (w.tried h).most;
+          sought = onward xs sound work from here next w.sought (sym ends-all ∙ ap end_found z) t.later (λ y a b. subst (Calm (suc y)) (take_all n xs (omega (arith, long))) (t.calm y a b));
+          most = t.most;
         }
 
-    -- an instant that suits: it was tried
-    pub state-found : free ≡ true → here < 2 ^ 63 → Least xs work from here end
-    state-found f h = go laid refl
-      where
-        go : (q : Bool) → laid ≡ q → Least xs work from here end
-        go true e = let z : i ≡ n = omega (arith, s.few) in walks-found sound long edges len here end free next i (s.walks e) h z f
-        go false e = absurd (not-both free f (s.gathers e).none)
-
-  pub state-over : Sound xs → length xs ≡ n → (cs : List Calendar) (edges : List ℕ) (len here end : ℕ) (free : Bool) (next : ℕ) (laid : Bool) (i : ℕ) → State cs edges len here end free next laid i → from ≤ 2 ^ 43 → 2 ^ 63 ≤ here → least_on true xs work from ≡ nothing
-  state-over sound long cs edges len here end free next laid i s f l = go laid refl
-    where
-      go : (q : Bool) → laid ≡ q → least_on true xs work from ≡ nothing
-      go true e = walks-over sound long edges len here end free next i (s.walks e) f l
-      go false e = absurd (omega (arith, (s.gathers e).start))
-
-  pub state-begun : Sound xs → length xs ≡ n → (cs : List Calendar) (edges : List ℕ) (len next : ℕ) → length cs ≡ 25 → Onward edges len next → (x y : ℕ) (p : Bool) (z : ℕ) (q : Bool) → x ≡ next → z ≡ 2 ^ 63 → q ≡ true
-      → EndKept edges len work next p y → State cs edges len x y p z q 0
-  state-begun sound long cs edges len next cells o x y p z q ex ez eq ends = record {
-    few = omega arith;
-    cells = cells;
-    wide = o.wide;
-    most = omega (arith, o.most);
-    gathers = λ f. absurd (not-both q eq f);
-    walks = λ f. rw (ex, ez) (walks-begin sound long edges len next y p o.short o.layout o.sought ends);
-  }
+    pub walks-over : (edges : List ℕ) (len here : ℕ) → Walks edges len here → from ≤ 2 ^ 43 → 2 ^ 63 ≤ here → least_on true xs work from ≡ nothing
+    walks-over edges len here w f l = over xs sound work from here f l w.sought
 
 -- the instants left, the one at hand with them
 unfoldable pub remaining : List ℕ → ℕ → ℕ
 remaining stops here = cond (ltb here (2 ^ 63)) (1 + above stops here) 0
 
-remaining-falls : (stops : List ℕ) (here x : ℕ) → here < x → x ≤ 2 ^ 63 → (x ≡ 2 ^ 63) ⊎ (among x stops ≡ true) → remaining stops x < remaining stops here
+pub remaining-falls : (stops : List ℕ) (here x : ℕ) → here < x → x ≤ 2 ^ 63 → (x ≡ 2 ^ 63) ⊎ (among x stops ≡ true) → remaining stops x < remaining stops here
 unfolding remaining
 remaining-falls stops here x l m on = rw (lt-ltb here (2 ^ 63) (omega arith)) (go (ltb x (2 ^ 63)) refl)
   where
     go : (q : Bool) → ltb x (2 ^ 63) ≡ q → cond q (1 + above stops x) 0 < 1 + above stops here
     go true e = omega (arith, above-falls stops here x l (⊎_elim (λ (z : x ≡ 2 ^ 63). absurd (omega (arith, ltb-true x (2 ^ 63) e))) (λ (z : among x stops ≡ true). z) on))
     go false e = omega arith
-
--- what is left of the walk falls
-abbrev pub left : List ℕ → ℕ → Bool → ℕ → ℕ → ℕ
-left stops here laid n i = remaining stops here * 64 + cond laid 0 32 + (n - i)
-
-module _ (stops : List ℕ) where
-  pub left-asked : (x here : ℕ) (q laid : Bool) (n i : ℕ) → x ≡ here → q ≡ laid → i < n → left stops x q n (i + 1) < left stops here laid n i
-  left-asked x here q laid n i a b l = rw (a, b) (omega arith)
-
-  pub left_laid : (x here : ℕ) (q laid : Bool) (n i : ℕ) → x ≡ here → q ≡ true → laid ≡ false → n ≤ 25 → left stops x q n 0 < left stops here laid n i
-  left_laid x here q laid n i a b c l = rw (a, b, c) (omega arith)
-
-  pub left-on : (x here : ℕ) (q laid : Bool) (n i : ℕ) → here < x → x ≤ 2 ^ 63 → (x ≡ 2 ^ 63) ⊎ (among x stops ≡ true) → q ≡ true → laid ≡ true → n ≤ 25 → left stops x q n 0 < left stops here laid n i
-  left-on x here q laid n i a m on b c l = rw (b, c) (omega (arith, remaining-falls stops here x a m on))
 
 -- an instant that a list of cells holds is among them
 listed_in : (xs : List ℕ) (n y : ℕ) → 1 ≤ y → Listed xs n y → among y (take n xs) ≡ true

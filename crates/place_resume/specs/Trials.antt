@@ -1,15 +1,16 @@
 -- What is kept of an instant that is tried: the joint end of the work from it.
-use Rattle.std.specs.Prelude.{ℕ, ◌<◌, ◌≡◌, Bool, cond, List}
-use Rattle.calendar.specs.Limits.{never}
+use Rattle.std.specs.Prelude.{ℕ, Option, Some, None}
+use Rattle.std.specs.Bool.{then_some}
 use Rattle.calendar.specs.Search.{Found, nothing, at}
-use Rattle.calendar.specs.Work.{work_end}
-use Rattle.cells.specs.Cells.{before}
-use Rattle.calendar_work.specs.Layout.{laid}
+use Rattle.timeline.specs.declared.ResourceTimeline.{ResourceTimeline}
+use Rattle.timeline.specs.Earliest.{free_on}
 
--- an end, where there is one
-abbrev pub end_if : Bool → ℕ → Found
-end_if free end = cond free (at end) nothing
+-- the end, where the units are free up to it
+unfoldable pub if_free : ResourceTimeline → ℕ → ℕ → Option ℕ → Option ℕ
+if_free t units s (Some e) = then_some (free_on t units s e) e
+if_free t units s None = None
 
--- it is the end of the work from x on, in the working time that the first `len` edges lay out; of 2^63 nothing is said
-abbrev pub EndKept : List ℕ → ℕ → ℕ → ℕ → Bool → ℕ → Type 0
-EndKept edges len work x free end = x < never → end_if free end ≡ work_end (before edges len) (laid edges len) x work
+-- an end in 01's words
+unfoldable pub end_found : Option ℕ → Found
+end_found (Some e) = at e
+end_found None = nothing

@@ -1,7 +1,6 @@
 -- What is kept of the answers; the proofs of one round.
 pub mod Finding
 pub mod Noting
-pub mod Cells
 pub mod Inserting
 pub mod Behind
 pub mod Answers

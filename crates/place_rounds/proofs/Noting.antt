@@ -53,8 +53,8 @@ module _ (b : Board) (v : board.valid b ≡ true) (few : b.len ≤ 16) (a : Acti
   whole = omega arith
 
   -- one cell more
-  next : (xs : List ℕ) → Through b a ready t xs k → (k % 16 < b.len → get_or xs k 0 ≡ start_for b a ready t (k / 16) (k % 16)) → Through b a ready t xs (k + 1)
-  next xs before here x y m n q =
+  pub through-next : (xs : List ℕ) → Through b a ready t xs k → (k % 16 < b.len → get_or xs k 0 ≡ start_for b a ready t (k / 16) (k % 16)) → Through b a ready t xs (k + 1)
+  through-next xs before here x y m n q =
       ⊎_elim
       (λ (e : k ≡ 16 * x + y). let c = cell x y n (sym e) in rw (← e, c.0, c.1) (here (omega (arith, c.1))))
       (λ (e : 16 * x + y ≡ k → ⊥). before x y m n (omega (arith, e)))
@@ -62,7 +62,7 @@ module _ (b : Board) (v : board.valid b ≡ true) (few : b.len ≤ 16) (a : Acti
 
   -- nobody is asked
   pub cell-known : to_ask (k % 16) b.len (get_or asked k 0) (get_or starts k 0) t ≡ false → Through b a ready t starts (k + 1)
-  cell-known e = next starts thru (λ l. let h = not-asked _ _ _ e (lt-ltb _ _ l) in rw whole at (kept.so (k / 16) (k % 16) t (omega arith) l (rw whole (ltb-false _ _ h.0)) (rw whole (ltb-false _ _ h.1))))
+  cell-known e = through-next starts thru (λ l. let h = not-asked _ _ _ e (lt-ltb _ _ l) in rw whole at (kept.so (k / 16) (k % 16) t (omega arith) l (rw whole (ltb-false _ _ h.0)) (rw whole (ltb-false _ _ h.1))))
 
   -- the resource is asked
   module _ (room : k < 64) (f : Found) (l : k % 16 < b.len) (e : f ≡ found_at b a ready (requirement_at a (k / 16)) t (k % 16)) where

@@ -1,5 +1,7 @@
 -- A round as the code goes through it, place by place, and the rounds so far.
-use Rattle.std.specs.Prelude.{ℕ, zero, suc, ◌≤◌, ◌<◌, ◌≡◌, true, false, cond, List, [], ◌++◌, take, replicate}
+use Rattle.std.specs.Prelude.{ℕ, zero, suc, ◌≤◌, ◌<◌, ◌≡◌, List, [], ◌++◌, take, Option, Some, None, IfSome}
+use Rattle.std.specs.declared.ops.ControlFlow.{ControlFlow}
+use Rattle.std.specs.ControlFlow.{MatchControlFlow}
 use Rattle.calendar.specs.Limits.{last_asked}
 use Rattle.activity.specs.declared.ResourceRequirement.{ResourceRequirement}
 use Rattle.activity.specs.declared.Activity.{Activity}
@@ -9,7 +11,7 @@ use Rattle.board.specs.Resources.{resources_of, resource_at}
 use Rattle.scheduler.specs.declared.Selection.{Selection}
 use Rattle.scheduler.specs.Alone.{duration_alone}
 use Rattle.scheduler.specs.Choosing as scheduler
-use Rattle.scheduler.specs.Selections.{no_selection, held_to, OnPlaces}
+use Rattle.scheduler.specs.Selections.{held_to, OnPlaces}
 use Rattle.cells.specs.Every.{Each}
 use Rattle.scheduler.specs.Instants.{above, points}
 use Rattle.place_plans.specs.declared.Plan.{Plan}
@@ -20,7 +22,6 @@ use Rattle.place_rounds.specs.declared.rank.Ranked.{Ranked}
 use Rattle.place_rounds.specs.Named.{ranked_of}
 use Rattle.place_rounds.specs.declared.Selections.{Selections}
 use Rattle.place_rounds.specs.declared.Choice.{Choice}
-use Rattle.place_rounds.specs.declared.Rounds.{Rounds}
 
 -- what the resource at a place answers
 unfoldable pub answer_at : Board → Activity → ℕ → ResourceRequirement → ℕ → ℕ → List scheduler.Candidate
@@ -52,28 +53,31 @@ pub record Lasting (b : Board) (h : Selection) : Type 0 where
   pub some : 1 ≤ h.usage
   pub soon : h.start ≤ last_asked
 
+-- at most eight are held
+abbrev pub Few : Selections → Type 0
+Few h = h.count ≤ 8
+
 -- the round that the code answers
-unfoldable pub round_of : Board → Selections → scheduler.Round
-round_of b h = cond h.enough (scheduler.holds (held_to b h.held h.count)) scheduler.too_few
+unfoldable pub round_of : Board → Option Selections → scheduler.Round
+round_of b (Some h) = scheduler.holds (held_to b h.cells h.count)
+round_of b None = scheduler.too_few
 
 -- it is the round at t on any board that has answered so from t on, and each held stands on that board
-abbrev pub RoundFor : List Plan → List ℕ → ℕ → Activity → Selections → Type 0
+abbrev pub RoundFor : List Plan → List ℕ → ℕ → Activity → Option Selections → Type 0
 RoundFor plans starts len a h =
     (b : Board) (ready t : ℕ) → Answered b a ready t len plans starts
-    → (round_of b h ≡ scheduler.round b a ready t (requirements_of a)) × Each (Lasting b) (take h.count h.held)
-
--- no choice
-abbrev pub no_choice : List Plan → Choice
-no_choice plans = record { chosen = false; instant = 0; held = replicate 8 no_selection; count = 0; plans = plans }
+    → (round_of b h ≡ scheduler.round b a ready t (requirements_of a)) × IfSome h (λ x. Each (Lasting b) (take x.count x.cells))
 
 -- and the choice
-unfoldable pub choice_of : Board → Choice → scheduler.Choice
-choice_of b r = cond r.chosen (scheduler.chosen r.instant (held_to b r.held r.count)) scheduler.no_choice
+unfoldable pub choice_of : Board → Option Choice → scheduler.Choice
+choice_of b (Some r) = scheduler.chosen r.instant (held_to b r.held.cells r.held.count)
+choice_of b None = scheduler.no_choice
 
--- those chosen stand on the board, and their plans are known
+-- those chosen stand on the board, and their plans are known; the choosing instant is by 2^43
 pub record Chosen (b : Board) (a : Activity) (ready : ℕ) (r : Choice) : Type 0 where
-  pub few : r.count ≤ 8
-  pub places : OnPlaces b r.held r.count
+  pub soon : r.instant ≤ last_asked
+  pub few : r.held.count ≤ 8
+  pub places : OnPlaces b r.held.cells r.held.count
   pub planned : Planned b a ready b.len r.plans
 
 -- the rounds have led to t, and more of them are left than there are instants after t
@@ -86,15 +90,18 @@ pub record Led (b : Board) (a : Activity) (ready t : ℕ) : Type 0 where
 abbrev pub Fewer : Board → Activity → ℕ → ℕ → ℕ → Type 0
 Fewer b a ready t u = above (points b a ready) u < above (points b a ready) t
 
--- the rounds so far: they have ended in the choice, or have led to their instant
-pub record Settled (b : Board) (a : Activity) (ready : ℕ) (x : Rounds) : Type 0 where
-  pub ends : x.done ≡ true → choice_of b x.choice ≡ scheduler.choosing b a ready
-  pub goes : x.done ≡ false → (x.instant ≤ last_asked) × Led b a ready x.instant
-  pub soon : x.choice.instant ≤ last_asked
-  pub chosen : x.choice.chosen ≡ true → Chosen b a ready x.choice
+-- the rounds have ended in the choice
+pub record Ended (b : Board) (a : Activity) (ready : ℕ) (c : Option Choice) : Type 0 where
+  pub so : choice_of b c ≡ scheduler.choosing b a ready
+  pub chosen : IfSome c (Chosen b a ready)
 
--- the rounds so far with the one at t, on any board that has answered so and has led to t; not done, they leave fewer instants
-abbrev pub RoundMore : List Plan → List ℕ → ℕ → Activity → ℕ → Rounds → Type 0
+-- or have led to an instant
+pub record LedTo (b : Board) (a : Activity) (ready t : ℕ) : Type 0 where
+  pub soon : t ≤ last_asked
+  pub led : Led b a ready t
+
+-- the round at t, on any board that has answered so and has led to t: it ends the rounds, or leads on, and leaves fewer instants
+abbrev pub RoundMore : List Plan → List ℕ → ℕ → Activity → ℕ → ControlFlow (Option Choice) ℕ → Type 0
 RoundMore plans starts len a t x =
     (b : Board) (ready : ℕ) → Answered b a ready t len plans starts → Led b a ready t
-    → Settled b a ready x × (x.done ≡ false → Fewer b a ready t x.instant)
+    → MatchControlFlow x (λ u. LedTo b a ready u × Fewer b a ready t u) (Ended b a ready)

@@ -1,5 +1,5 @@
 -- Kinds 21 to 24: the order in hand. Its values are taken unchecked; placing checks them.
-use Rattle.std.specs.Prelude.{ℕ, ◌+◌, Bool, cond, ◌||◌, List, pos, ltb, eqb}
+use Rattle.std.specs.Prelude.{ℕ, ◌+◌, Bool, cond, ◌||◌, List, pos, ltb, eqb, Option, Some, None}
 use Rattle.std.specs.Float.{binary64}
 use Rattle.std.specs.Float.Ieee.{of_bits}
 use Rattle.calendar.specs.declared.Calendar.{Calendar}
@@ -10,8 +10,6 @@ use Rattle.activity.specs.declared.ActivityDuration.{ActivityDuration}
 use Rattle.activity.specs.declared.ResourceTiming.{ResourceTiming}
 use Rattle.activity.specs.declared.ResourceTiming.TheVariants.{Speed, Duration}
 use Rattle.activity.specs.declared.ResourceRequirement.{ResourceRequirement}
-use Rattle.activity.specs.declared.Release.{Release}
-use Rattle.activity.specs.declared.Release.TheVariants.{Absent, At}
 use Rattle.activity.specs.declared.Activity.{Activity}
 use Rattle.record_desk.specs.declared.Desk.{Desk}
 use Rattle.record_board.specs.declared.DeskStepped.{DeskStepped}
@@ -24,8 +22,8 @@ use Rattle.record_bodies.specs.Bodies.{byte}
 abbrev pub duration_at : List ℕ → ℕ → ActivityDuration
 duration_at bs i = record { setup = little bs i 8; process = little bs (i + 8) 8; teardown = little bs (i + 16) 8 }
 
-unfoldable pub release_of : ℕ → ℕ → Release
-release_of present release = cond (eqb present 1) (At release) Absent
+unfoldable pub release_of : ℕ → ℕ → Option ℕ
+release_of present release = cond (eqb present 1) (Some release) None
 
 -- the order of a body: category (1), three durations, resumable (1), release present (1), release (8), come from (2), own calendar (1)
 unfoldable pub order_by : List ℕ → ℕ → Calendar → Activity

@@ -6,7 +6,7 @@ use Rattle.record_bodies.specs.Numbers.{little}
 use Rattle.record_diary_text.specs.Lines.{Printed, nothing, line}
 use Rattle.record_diary.specs.Records.{Done, record_does}
 use Rattle.board.specs.declared.Board.{Board}
-use Rattle.board.specs.declared.Entered.{Entered}
+use Rattle.board.specs.Replies.{Entered}
 use Rattle.board.specs.Enter.{add_resource_reply, set_matrix_reply, set_transition_reply, set_initial_reply, set_transport_reply}
 use Rattle.record_desk.specs.declared.Desk.{Desk}
 use Rattle.record_desk.specs.Desk.{with_diary, with_order, with_board}

@@ -1,13 +1,11 @@
 -- What the asks answer, in the words of the definitions.
-use Rattle.std.specs.Prelude.{◌≡◌, ℕ, ◌^◌, ◌<◌, ◌≤◌, Bool, true, false, cond, not}
+use Rattle.std.specs.Prelude.{◌≡◌, ℕ, ◌^◌, ◌<◌, ◌≤◌, Bool, true, false, cond, not, Option, Some, None}
 use mathlib.Core.Path.{refl, sym, ap, ◌∙◌}
 use native.Mathlib.Omega.{arith}
 use borrow.Author.Tests.{lt-ltb, le-ltb, le-leb}
 use Rattle.calendar.specs.Search.{Found, nothing, at, is_at}
 use Rattle.activity.specs.declared.ResourceRequirement.{ResourceRequirement}
 use Rattle.activity.specs.Serving.{serves}
-use Rattle.board.specs.declared.LastCategory.{LastCategory}
-use Rattle.board.specs.declared.LastCategory.TheVariants.{Nothing, Category}
 use Rattle.board.specs.declared.Board.{Board}
 use Rattle.board.specs.Resources.{resource_at, lookup}
 use Rattle.board.specs.Setups.{setup_ms}
@@ -17,8 +15,7 @@ use Rattle.board.specs.Valid.{valid, last_right}
 use Rattle.board.specs.Laws.Facts.{rules_of}
 use Rattle.board.specs.Laws.Seeing.{lookup-below}
 use Rattle.board.specs.Theorems.Meaning.{transport-is}
-use Rattle.board_numbers.specs.declared.PlaceFor.{PlaceFor}
-use Rattle.board_numbers.specs.Entry.{entry_at, entry_for}
+use Rattle.board_numbers.specs.Entry.{PlaceFor, entry_at, entry_for}
 use Rattle.board_numbers.proofs.Standing.{on-small}
 use Rattle.calendar.specs.Refusals.{refused_or}
 use Rattle.calendar.specs.Laws.Refusals.{refused-by}
@@ -56,11 +53,11 @@ module _ (b : Board) (number : ℕ) where
   unfolding refused_or
   taken-place r a rest q h e = rw (sym q.number_refusal ∙ h) e
 
-pub no_last : (c : ℕ) → 15 < c → (Nothing ≡ last_of c) × (last_right Nothing ≡ true)
+pub no_last : (c : ℕ) → 15 < c → (None ≡ last_of c) × (last_right None ≡ true)
 unfolding last_of last_right
 no_last c h = (rw (lt-ltb 15 c h) refl, refl)
 
-pub a-last : (c : ℕ) → c ≤ 15 → (Category c ≡ last_of c) × (last_right (Category c) ≡ true)
+pub a-last : (c : ℕ) → c ≤ 15 → (Some c ≡ last_of c) × (last_right (Some c) ≡ true)
 unfolding last_of last_right
 a-last c h = (rw (le-ltb 15 c h) refl, le-leb c 15 h)
 
@@ -77,7 +74,7 @@ module _ (b : Board) (number last category own : ℕ) (r : PlaceFor) (q : Locate
   unfolding setup_reply
   setup-own h l m = taken-place b number r _ _ q h (rw (le-ltb 15 category l, lt-ltb (2 ^ 36) own m) refl)
 
-  pub setup-is : (before : LastCategory) (ms : ℕ) → r.refusal ≡ 0 → category ≤ 15 → own ≤ 68719476736 → before ≡ last_of last
+  pub setup-is : (before : Option ℕ) (ms : ℕ) → r.refusal ≡ 0 → category ≤ 15 → own ≤ 68719476736 → before ≡ last_of last
       → ms ≡ setup_ms (resource_at b r.place).matrix before category own → Setup ms ≡ setup_reply b number last category own
   unfolding setup_reply place_of
   setup-is before ms h l m f e =

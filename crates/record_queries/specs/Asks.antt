@@ -1,13 +1,11 @@
 -- The asks of the runs beside the Rust, kinds 40 to 43.
-use Rattle.std.specs.Prelude.{ℕ, ◌+◌, ◌-◌, true, false, cond, not, List, [], ◌∷◌, ◌==◌, nat_le, nat_lt}
+use Rattle.std.specs.Prelude.{ℕ, ◌+◌, ◌-◌, true, false, cond, not, List, [], ◌∷◌, ◌==◌, nat_le, nat_lt, Option, Some, None}
 use Rattle.calendar.specs.Limits.{longest_duration}
 use Rattle.calendar.specs.Refusals.{refused_or}
 use Rattle.record_bodies.specs.Numbers.{little}
 use Rattle.activity.specs.declared.ResourceRequirement.{ResourceRequirement}
 use Rattle.activity.specs.Check.{DurationReply, lasts, refused, duration_reply}
 use Rattle.activity.specs.Serving.{serves}
-use Rattle.board.specs.declared.LastCategory.{LastCategory}
-use Rattle.board.specs.declared.LastCategory.TheVariants.{Nothing, Category}
 use Rattle.board.specs.declared.Board.{Board}
 use Rattle.board.specs.Resources.{resource_at, lookup, on_board}
 use Rattle.board.specs.Places.{place_of}
@@ -31,8 +29,8 @@ duration_line (lasts d) = Lasts d.setup d.process d.teardown
 duration_line (refused n) = Refused n
 
 -- a category that was last; above 15 for none
-unfoldable pub last_of : ℕ → LastCategory
-last_of category = cond (nat_lt 15 category) Nothing (Category category)
+unfoldable pub last_of : ℕ → Option ℕ
+last_of category = cond (nat_lt 15 category) None (Some category)
 
 -- 5 a category above 15; 1 a setup above 2^36
 unfoldable pub setup_reply : Board → ℕ → ℕ → ℕ → ℕ → QueryAnswer

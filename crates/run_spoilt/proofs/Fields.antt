@@ -1,10 +1,10 @@
 -- Values that agree in every field are the same.
+use Rattle.std.specs.Prelude.{Option, Some, None}
 use Rattle.std.proofs.Common.{◌≡◌, ℕ, Bool, true, false, not, List, ℤ, sym, refl, ap, ◌∙◌, true≢false, w64, SFits, to_z, of_z}
 use mathlib.Core.Bool.{beq}
 use mir.ValLaws.{to_z-of_z}
 use Rattle.timeline.specs.declared.ResourceTimeline.{ResourceTimeline}
 use Rattle.board.specs.declared.TransitionMatrix.{TransitionMatrix}
-use Rattle.board.specs.declared.LastCategory.{LastCategory}
 use Rattle.board.specs.declared.Resource.{Resource}
 use Rattle.board.specs.declared.Board.{Board}
 
@@ -31,7 +31,7 @@ resource-same a b n k s c cs l m t =
     go a.number b.number a.kind b.kind a.skills b.skills a.count b.count a.companions b.companions a.last b.last a.matrix b.matrix a.timeline b.timeline
     n k s c cs l m t
   where
-    go : (n n' k k' s s' c c' : ℕ) (cs cs' : List ℕ) (l l' : LastCategory) (m m' : TransitionMatrix) (t t' : ResourceTimeline)
+    go : (n n' k k' s s' c c' : ℕ) (cs cs' : List ℕ) (l l' : Option ℕ) (m m' : TransitionMatrix) (t t' : ResourceTimeline)
         → n ≡ n' → k ≡ k' → s ≡ s' → c ≡ c' → cs ≡ cs' → l ≡ l' → m ≡ m' → t ≡ t'
         → ◌≡◌ {A = Resource} (record { number = n; kind = k; skills = s; companions = cs; count = c; timeline = t; matrix = m; last = l })
         (record { number = n'; kind = k'; skills = s'; companions = cs'; count = c'; timeline = t'; matrix = m'; last = l' })

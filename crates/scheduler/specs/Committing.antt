@@ -1,13 +1,11 @@
 -- The reply of committing, the board afterwards, and what it leaves of a resource.
-use Rattle.std.specs.Prelude.{ℕ, ◌+◌, ◌≤◌, ◌<◌, Bool, not, ◌&&◌, ◌||◌, cond, List, [], ◌∷◌, map, length, take, leb, ltb, eqb, ◌≡◌}
+use Rattle.std.specs.Prelude.{ℕ, ◌+◌, ◌≤◌, ◌<◌, Bool, not, ◌&&◌, ◌||◌, cond, List, [], ◌∷◌, map, length, take, leb, ltb, eqb, ◌≡◌, Option, Some, None}
 use Rattle.calendar.specs.Limits.{last_instant, most_units, most_bookings}
 use Rattle.timeline.specs.Book.{with_booking}
 use Rattle.cells.specs.Every.{every}
-use Rattle.board.specs.declared.LastCategory.{LastCategory}
-use Rattle.board.specs.declared.LastCategory.TheVariants.{Category}
 use Rattle.board.specs.declared.Resource.{Resource}
 use Rattle.board.specs.declared.Board.{Board}
-use Rattle.board.specs.declared.Entered.{Entered}
+use Rattle.board.specs.Replies.{Entered}
 use Rattle.board.specs.Resources.{with_timeline, with_last, lookup, on_board}
 use Rattle.board.specs.Valid as board
 use Rattle.board.specs.Enter.{entered, changed}
@@ -54,8 +52,8 @@ commit_refusal b slate count start end category =
     (lines_refusal b (lines_of count slate) start end category)))
 
 -- non-companions with a matrix take the category
-unfoldable pub last_after : Resource → Bool → ℕ → LastCategory
-last_after r companion category = cond (r.matrix.present && not companion) (Category category) r.last
+unfoldable pub last_after : Resource → Bool → ℕ → Option ℕ
+last_after r companion category = cond (r.matrix.present && not companion) (Some category) r.last
 
 unfoldable pub booked : ℕ → ℕ → ℕ → Line → Resource → Resource
 booked start end category l r =

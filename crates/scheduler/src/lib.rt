@@ -8,7 +8,7 @@ ghost use Rattle.scheduler.specs.Entries.{held_entry, companion_entry, no_entry}
 pub mod rows;
 
 // A resource held (one of the Rust's `selections`), by its place on the board, with its start and the units wanted of it.
-#[derive(Clone, Copy)]
+#[derive(Clone, Copy, Default)]
 pub struct Selection {
     pub place: usize,
     pub start: u64,
@@ -16,7 +16,7 @@ pub struct Selection {
 }
 
 // An entry of a placement: resource, setup, units, companion or not.
-#[derive(Clone, Copy)]
+#[derive(Clone, Copy, Default)]
 pub struct Entry {
     pub number: u8,
     pub setup: u64,
@@ -29,9 +29,9 @@ pub fn held_entry(number: u8, setup: u64, units: u32) -> Entry
     ensures { result ≡ held_entry number setup units }
 {
     Entry {
-        number: number,
-        setup: setup,
-        units: units,
+        number,
+        setup,
+        units,
         companion: false,
     }
 }
@@ -41,7 +41,7 @@ pub fn companion_entry(number: u8) -> Entry
     ensures { result ≡ companion_entry number }
 {
     Entry {
-        number: number,
+        number,
         setup: 0,
         units: 1,
         companion: true,
@@ -52,10 +52,5 @@ pub fn companion_entry(number: u8) -> Entry
 pub fn no_entry() -> Entry
     ensures { result ≡ no_entry }
 {
-    Entry {
-        number: 0,
-        setup: 0,
-        units: 0,
-        companion: false,
-    }
+    Entry::default()
 }

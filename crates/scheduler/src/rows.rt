@@ -16,8 +16,12 @@ pub const BLANK_ROW: Row = [0; WORDS];
 pub fn row_of(e: Entry) -> Row
     ensures { result ≡ row_of e }
 {
-    let companion: u64 = if e.companion { 1 } else { 0 };
-    [e.number as u64, e.setup, e.units as u64, companion]
+    [
+        u64::from(e.number),
+        e.setup,
+        u64::from(e.units),
+        u64::from(e.companion),
+    ]
 }
 
 pub fn number_in(row: Row) -> u64

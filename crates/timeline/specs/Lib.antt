@@ -5,6 +5,7 @@ pub mod Diary
 pub mod Valid
 pub mod Free
 pub mod Earliest
+pub mod Replies
 pub mod Book
 pub mod Ask
 pub mod Steps

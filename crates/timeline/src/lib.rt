@@ -2,21 +2,23 @@
 // replies of 'Booking').
 #![tactic(auto)]
 
-use calendar::Calendar;
 use calendar::limits::{LAST_INSTANT, MOST_UNITS};
+use calendar::{Calendar, Refusal};
 
 mod insert;
 pub mod same;
 
-ghost use Rattle.std.specs.Prelude.{◌≡◌, true, ◌&&◌, ◌-◌, ◌^◌, ◌≤◌, ◌<◌, eqb};
+ghost use Rattle.std.specs.Prelude.{◌≡◌, true, IfOk, ◌&&◌, ◌-◌, ◌^◌, ◌≤◌, ◌<◌, eqb};
 ghost use Rattle.timeline.specs.Valid.{cell_right, cell_empty, filled_from, empty_from, cells_right, valid};
 ghost use Rattle.timeline.specs.Bookings.{bookings, total};
 ghost use Rattle.timeline.specs.Diary.{capacity_of, new_diary, blank_diary};
 ghost use Rattle.timeline.specs.Book.{book_reply, book_refusal};
+ghost use Rattle.timeline.specs.Replies.{booked_of};
+ghost use Rattle.calendar.specs.Replies.{refused};
 
 // 01: diary. The booking in cell i is starts[i], ends[i], units[i], and latest[i] the latest end of cells 0 to i (the Rust's
 // latest_end_to). Cells past `len` are 0. No windows and no blocks: a diary without a calendar.
-#[derive(Clone, Copy)]
+#[derive(Clone, Copy, PartialEq, Eq)]
 pub struct ResourceTimeline {
     pub capacity: u32,
     pub calendar: Calendar,
@@ -28,48 +30,19 @@ pub struct ResourceTimeline {
     pub booked: u64,
 }
 
-// What a booking answers, and a window or a block of a diary: the refusal's number, 0 for none, and the diary, new or unchanged.
-#[derive(Clone, Copy)]
-pub struct Booked {
-    pub refusal: u8,
-    pub timeline: ResourceTimeline,
-}
-
 // A filled cell keeps the rules, after a cell with start ps and latest end pl.
+#[tactic(auto, unfolding(crate::specs::Valid::cell_right))]
 fn cell_right(s: u64, e: u64, u: u32, l: u64, ps: u64, pl: u64) -> bool
     ensures { result ≡ cell_right s e u l ps pl }
 {
-    if e <= s {
-        return false;
-    }
-    if e > LAST_INSTANT {
-        return false;
-    }
-    if u < 1 {
-        return false;
-    }
-    if u > MOST_UNITS {
-        return false;
-    }
-    if s < ps {
-        return false;
-    }
-    if pl <= e { l == e } else { l == pl }
+    s < e && e <= LAST_INSTANT && 1 <= u && u <= MOST_UNITS && ps <= s && l == pl.max(e)
 }
 
+#[tactic(auto, unfolding(crate::specs::Valid::cell_empty))]
 fn cell_empty(s: u64, e: u64, u: u32, l: u64) -> bool
     ensures { result ≡ cell_empty s e u l }
 {
-    if s != 0 {
-        return false;
-    }
-    if e != 0 {
-        return false;
-    }
-    if u != 0 {
-        return false;
-    }
-    l == 0
+    s == 0 && e == 0 && u == 0 && l == 0
 }
 
 // The cells up to the length are filled, and the booked total is theirs.
@@ -77,12 +50,10 @@ fn filled(t: ResourceTimeline) -> bool
     requires { t.len ≤ 64 }
     ensures { result ≡ filled_from t 0 t.len && eqb t.booked (total (bookings t)) }
 {
-    let len = t.len;
-    let mut ps: u64 = 0;
-    let mut pl: u64 = 0;
-    let mut sum: u64 = 0;
-    let mut i: usize = 0;
-    while i < len {
+    let mut ps = 0;
+    let mut pl = 0;
+    let mut sum = 0;
+    for i in 0..t.len {
         let s = t.starts[i];
         let e = t.ends[i];
         let u = t.units[i];
@@ -93,7 +64,6 @@ fn filled(t: ResourceTimeline) -> bool
         sum += (e - s) * (u as u64);
         ps = s;
         pl = l;
-        i += 1;
     }
     t.booked == sum
 }
@@ -103,12 +73,10 @@ fn empty(t: ResourceTimeline) -> bool
     requires { t.len ≤ 64 }
     ensures { result ≡ empty_from t t.len (64 - t.len) }
 {
-    let mut i = t.len;
-    while i < 64 {
+    for i in t.len..64 {
         if !cell_empty(t.starts[i], t.ends[i], t.units[i], t.latest[i]) {
             return false;
         }
-        i += 1;
     }
     true
 }
@@ -118,29 +86,19 @@ fn cells_right(t: ResourceTimeline) -> bool
     requires { t.len ≤ 64 }
     ensures { result ≡ cells_right t }
 {
-    if !filled(t) {
-        return false;
-    }
-    empty(t)
+    filled(t) && empty(t)
 }
 
 // The diary keeps the rules.
+#[tactic(auto, unfolding(crate::specs::Valid::valid, crate::specs::Valid::contents_right))]
 pub fn is_valid(t: ResourceTimeline) -> bool
     ensures { result ≡ valid t }
 {
-    if !calendar::is_valid(t.calendar) {
-        return false;
-    }
-    if t.capacity < 1 {
-        return false;
-    }
-    if t.capacity >= 2147483648 {
-        return false;
-    }
-    if t.len > 64 {
-        return false;
-    }
-    cells_right(t)
+    1 <= t.capacity
+        && t.capacity < 2147483648
+        && calendar::is_valid(t.calendar)
+        && t.len <= 64
+        && cells_right(t)
 }
 
 // A given capacity, and at least 1.
@@ -154,37 +112,33 @@ fn capacity_of(given: i32) -> u32
 pub fn blank() -> ResourceTimeline
     ensures { result ≡ blank_diary }
 {
-    let mut t = ResourceTimeline::new(1);
-    t.capacity = 0;
-    t
+    ResourceTimeline {
+        capacity: 0,
+        ..ResourceTimeline::new(1)
+    }
 }
 
-// The number that refuses a booking, 0 for none.
-fn book_refusal(t: ResourceTimeline, start: u64, end: u64, units: u32) -> u8
-    ensures { result ≡ book_refusal t start end units }
+// Whether a booking can be made, or why not.
+#[tactic(auto, unfolding(crate::specs::Book::book_refusal))]
+fn check_booking(t: ResourceTimeline, start: u64, end: u64, units: u32) -> Result<(), Refusal>
+    ensures { refused result ≡ book_refusal t start end units }
 {
     if !is_valid(t) {
-        return 15;
+        return Err(Refusal::Invalid);
     }
-    if start > LAST_INSTANT {
-        return 1;
-    }
-    if end > LAST_INSTANT {
-        return 1;
+    if start > LAST_INSTANT || end > LAST_INSTANT {
+        return Err(Refusal::OutOfRange);
     }
     if end <= start {
-        return 2;
+        return Err(Refusal::EmptySpan);
     }
-    if units < 1 {
-        return 3;
-    }
-    if units > MOST_UNITS {
-        return 3;
+    if units < 1 || units > MOST_UNITS {
+        return Err(Refusal::Units);
     }
     if t.len >= 64 {
-        return 4;
+        return Err(Refusal::Full);
     }
-    0
+    Ok(())
 }
 
 impl ResourceTimeline {
@@ -192,11 +146,9 @@ impl ResourceTimeline {
     pub fn new(given: i32) -> ResourceTimeline
         ensures { (result ≡ new_diary given) × (valid result ≡ true) }
     {
-        let capacity = capacity_of(given);
-        let none = Calendar::new();
         ResourceTimeline {
-            capacity: capacity,
-            calendar: none,
+            capacity: capacity_of(given),
+            calendar: Calendar::new(),
             starts: [0; 64],
             ends: [0; 64],
             units: [0; 64],
@@ -207,21 +159,12 @@ impl ResourceTimeline {
     }
 
     // Books, or refuses: 15 a diary that breaks the rules, 1 an instant, 2 end at or before start, 3 units, 4 a 65th.
-    pub fn book(self, start: u64, end: u64, units: u32) -> Booked
-        ensures value { result ≡ book_reply self start end units }
-        ensures timeline_value { valid self ≡ true → valid result.timeline ≡ true }
+    #[tactic(auto, unfolding(crate::specs::Book::book_reply, crate::specs::Book::taken))]
+    pub fn book(self, start: u64, end: u64, units: u32) -> Result<ResourceTimeline, Refusal>
+        ensures value { booked_of self result ≡ book_reply self start end units }
+        ensures timeline_value { IfOk result (λ t. valid self ≡ true → valid t ≡ true) }
     {
-        let n = book_refusal(self, start, end, units);
-        if n != 0 {
-            return Booked {
-                refusal: n,
-                timeline: self,
-            };
-        }
-        let more = insert::insert(self, start, end, units);
-        Booked {
-            refusal: 0,
-            timeline: more,
-        }
+        check_booking(self, start, end, units)?;
+        Ok(insert::insert(self, start, end, units))
     }
 }

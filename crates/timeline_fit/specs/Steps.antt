@@ -1,9 +1,8 @@
 -- What the search of an unbroken span answers.
+use Rattle.std.specs.Prelude.{ℕ, Option, Some, None}
 use Rattle.calendar.specs.Search.{Found, nothing, at}
-use Rattle.timeline_fit.specs.declared.Start.{Start}
-use Rattle.timeline_fit.specs.declared.Start.TheVariants.{At, Nothing}
 
 -- in 01's words
-unfoldable pub start_of : Start → Found
-start_of (At s) = at s
-start_of Nothing = nothing
+abbrev pub start_of : Option ℕ → Found
+start_of (Some s) = at s
+start_of None = nothing

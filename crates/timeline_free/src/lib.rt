@@ -3,7 +3,7 @@
 #![tactic(auto)]
 
 ghost use Rattle.std.specs.Prelude.{◌≡◌, true, ◌≤◌};
-ghost use Rattle.timeline.specs.Bookings.{bookings_to};
+ghost use Rattle.timeline.specs.Bookings.{bookings};
 ghost use Rattle.timeline.specs.Valid.{valid};
 ghost use Rattle.timeline.specs.Free.{load, free};
 ghost use Rattle.timeline.specs.Earliest.{free_on};
@@ -12,115 +12,69 @@ ghost use Rattle.timeline.specs.Steps.{overlapping, Columns, From};
 use timeline::ResourceTimeline;
 
 // The units of the bookings that overlap [s, e). None before cell `first` does, nor any from the first on that starts at e or later.
-fn units_over(
-    starts: &[u64; 64],
-    ends: &[u64; 64],
-    units: &[u32; 64],
-    n: usize,
-    first: usize,
-    s: u64,
-    e: u64,
-) -> u64
-    requires { From starts.now ends.now units.now n first s }
-    ensures { result ≡ overlapping (bookings_to starts.now ends.now units.now n) s e }
+fn units_over(t: &ResourceTimeline, first: usize, s: u64, e: u64) -> u64
+    requires { From t.now.starts t.now.ends t.now.units t.now.len first s }
+    ensures { result ≡ overlapping (bookings t.now) s e }
 {
-    let mut sum: u64 = 0;
-    let mut i = first;
-    while i < n {
-        if starts[i] >= e {
+    let mut sum = 0;
+    for i in first..t.len {
+        if t.starts[i] >= e {
             break;
         }
-        if s < ends[i] {
-            sum += units[i] as u64;
+        if s < t.ends[i] {
+            sum += t.units[i] as u64;
         }
-        i += 1;
     }
     sum
 }
 
 // The load at instant p of the span [s, e). None before cell `first` is on then, nor any from the first on that starts after p.
-fn load_at(
-    starts: &[u64; 64],
-    ends: &[u64; 64],
-    units: &[u32; 64],
-    n: usize,
-    first: usize,
-    s: u64,
-    e: u64,
-    p: u64,
-) -> u64
-    requires { From starts.now ends.now units.now n first s × (s ≤ p) }
-    ensures { result ≡ load (bookings_to starts.now ends.now units.now n) s e p }
+fn load_at(t: &ResourceTimeline, first: usize, s: u64, e: u64, p: u64) -> u64
+    requires { From t.now.starts t.now.ends t.now.units t.now.len first s × (s ≤ p) }
+    ensures { result ≡ load (bookings t.now) s e p }
 {
-    let mut sum: u64 = 0;
-    let mut i = first;
-    while i < n {
-        if starts[i] >= e {
+    let mut sum = 0;
+    for i in first..t.len {
+        if t.starts[i] >= e {
             break;
         }
-        if starts[i] > p {
+        if t.starts[i] > p {
             break;
         }
-        if p < ends[i] {
-            sum += units[i] as u64;
+        if p < t.ends[i] {
+            sum += t.units[i] as u64;
         }
-        i += 1;
     }
     sum
 }
 
 // The load at s and at each booking start inside [s, e) leaves room: it rises nowhere else.
-fn has_room(
-    starts: &[u64; 64],
-    ends: &[u64; 64],
-    units: &[u32; 64],
-    n: usize,
-    first: usize,
-    s: u64,
-    e: u64,
-    room: u64,
-) -> bool
-    requires { From starts.now ends.now units.now n first s }
-    ensures { result ≡ free room (bookings_to starts.now ends.now units.now n) 0 s e }
+fn has_room(t: &ResourceTimeline, first: usize, s: u64, e: u64, room: u64) -> bool
+    requires { From t.now.starts t.now.ends t.now.units t.now.len first s }
+    ensures { result ≡ free room (bookings t.now) 0 s e }
 {
-    if load_at(starts, ends, units, n, first, s, e, s) > room {
+    if load_at(t, first, s, e, s) > room {
         return false;
     }
-    let mut i = first;
-    while i < n {
-        let p = starts[i];
+    for i in first..t.len {
+        let p = t.starts[i];
         if p >= e {
             break;
         }
-        if s < p {
-            if load_at(starts, ends, units, n, first, s, e, p) > room {
-                return false;
-            }
+        if s < p && load_at(t, first, s, e, p) > room {
+            return false;
         }
-        i += 1;
     }
     true
 }
 
-// The bookings in the columns leave room over [s, e). Those before the first whose running latest end is at s or later are over.
-pub fn free_over(
-    starts: &[u64; 64],
-    ends: &[u64; 64],
-    units: &[u32; 64],
-    latest: &[u64; 64],
-    n: usize,
-    s: u64,
-    e: u64,
-    room: u64,
-) -> bool
-    requires { Columns starts.now ends.now units.now latest.now n }
-    ensures { result ≡ free room (bookings_to starts.now ends.now units.now n) 0 s e }
+// The bookings of the diary leave room over [s, e). Those before the first whose running latest end is at s or later are over.
+pub fn free_over(t: &ResourceTimeline, s: u64, e: u64, room: u64) -> bool
+    requires { Columns t.now.starts t.now.ends t.now.units t.now.latest t.now.len }
+    ensures { result ≡ free room (bookings t.now) 0 s e }
 {
-    let first = cells::cells_before(latest, n, s);
-    if units_over(starts, ends, units, n, first, s, e) <= room {
-        return true;
-    }
-    has_room(starts, ends, units, n, first, s, e, room)
+    let first = cells::cells_before(&t.latest, t.len, s);
+    units_over(t, first, s, e) <= room || has_room(t, first, s, e, room)
 }
 
 // Units are free over [s, e).
@@ -128,14 +82,5 @@ pub fn is_free(t: ResourceTimeline, s: u64, e: u64, units: u32) -> bool
     requires { valid t ≡ true }
     ensures { result ≡ free_on t units s e }
 {
-    if units > t.capacity {
-        return false;
-    }
-    let room = (t.capacity - units) as u64;
-    let starts = t.starts;
-    let ends = t.ends;
-    let booked = t.units;
-    let latest = t.latest;
-    let len = t.len;
-    free_over(&starts, &ends, &booked, &latest, len, s, e, room)
+    units <= t.capacity && free_over(&t, s, e, (t.capacity - units) as u64)
 }

@@ -1,7 +1,7 @@
 -- A run as the loop takes it, from reply to reply.
 use Rattle.std.specs.Prelude.{Bool, true, false, List, [], ◌∷◌, eqb}
 use Rattle.calendar.specs.declared.Calendar.{Calendar}
-use Rattle.calendar.specs.declared.Added.{Added}
+use Rattle.calendar.specs.Replies.{Added}
 use Rattle.calendar.specs.Valid.{valid}
 use Rattle.timeline_loader.specs.declared.TimeWindow.{TimeWindow}
 use Rattle.timeline_loader.specs.Run.{reply, judged}

@@ -1,8 +1,8 @@
 -- What reading a diary answers (the Rust's `capacity`, `booked_ms`, `latest_end`; not in 01).
-use Rattle.std.specs.Prelude.{ℕ, not, cond}
+use Rattle.std.specs.Prelude.{ℕ, Result, Ok, Err, not, cond}
 use Rattle.timeline.specs.declared.ResourceTimeline.{ResourceTimeline}
-use Rattle.timeline_readings.specs.declared.Reading.{Reading}
-use Rattle.timeline_readings.specs.declared.Reading.TheVariants.{Value, Refused}
+use Rattle.calendar.specs.declared.refusal.Refusal.{Refusal}
+use Rattle.calendar.specs.Replies.{number_of}
 use Rattle.timeline.specs.Bookings.{bookings, total, latest_end}
 use Rattle.timeline.specs.Valid.{valid}
 
@@ -11,9 +11,9 @@ pub data Read : Type 0 where
   value : ℕ → Read
   refused : ℕ → Read
 
-unfoldable pub read_of : Reading → Read
-read_of (Value n) = value n
-read_of (Refused n) = refused n
+abbrev pub read_of : Result ℕ Refusal → Read
+read_of (Ok n) = value n
+read_of (Err e) = refused (number_of e)
 
 -- 15 before all else
 unfoldable pub read : ResourceTimeline → ℕ → Read

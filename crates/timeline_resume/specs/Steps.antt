@@ -1,7 +1,8 @@
 -- What the search of resumable work answers, in 01's words.
-use Rattle.calendar_work.specs.Layout.{found_of}
-use Rattle.timeline.specs.Ask.{AskReply, ended}
-use Rattle.timeline_resume.specs.declared.Resumable.{Resumable}
+use Rattle.std.specs.Prelude.{ℕ, Option, Some, None}
+use Rattle.timeline.specs.Ask.{AskReply, fit, none}
 
-abbrev pub resumable_of : Resumable → AskReply
-resumable_of r = ended r.start (found_of r.end)
+-- a start with the work's end
+abbrev pub resumable_of : Option (ℕ × ℕ) → AskReply
+resumable_of (Some p) = fit p.0 p.1
+resumable_of None = none

@@ -11,61 +11,41 @@ ghost use Rattle.timeline.specs.Earliest.{earliest_resumable};
 ghost use Rattle.timeline.specs.Ask.{resumed};
 ghost use Rattle.timeline_resume.specs.Steps.{resumable_of};
 
-use calendar_work::WorkEnd;
 use timeline::ResourceTimeline;
 
-// The least start of resumable work, and its end; nothing where there is none.
-#[derive(Clone, Copy)]
-pub struct Resumable {
-    pub start: u64,
-    pub end: WorkEnd,
-}
-
 // The candidates tried in rising order, each with the work's end over the edges.
-fn first_resumable(t: ResourceTimeline, from: u64, work: u64, units: u32) -> Resumable
+fn first_resumable(t: ResourceTimeline, from: u64, work: u64, units: u32) -> Option<(u64, u64)>
     requires { (valid t ≡ true) × (from ≤ last_asked) × (work ≤ longest_span) × (units ≤ t.capacity) }
     ensures { resumable_of result ≡ resumed t work (earliest_resumable t from work units) }
 {
-    let starts = t.starts;
-    let ends = t.ends;
-    let booked = t.units;
-    let latest = t.latest;
-    let len = t.len;
     let room = (t.capacity - units) as u64;
-    let mut edges: [u64; 128] = [0; 128];
+    let mut edges = [0; 128];
     let m = calendar_joint::working_time(t.calendar, &mut edges);
-    let mut listed: [u64; 129] = [0; 129];
+    let mut listed = [0; 129];
     let n = timeline_candidates::start_candidates(t, from, &mut listed);
-    let mut i: usize = 0;
-    while i < n {
+    for i in 0..n {
         let at = listed[i];
-        let end = calendar_work::work_end(&edges, m, at, work);
-        if let WorkEnd::At(e) = end {
-            if timeline_free::free_over(&starts, &ends, &booked, &latest, len, at, e, room) {
-                return Resumable {
-                    start: at,
-                    end: WorkEnd::At(e),
-                };
+        if let Some(end) = calendar_work::work_end(&edges, m, at, work) {
+            if timeline_free::free_over(&t, at, end, room) {
+                return Some((at, end));
             }
         }
-        i += 1;
     }
-    Resumable {
-        start: 0,
-        end: WorkEnd::Nothing,
-    }
+    None
 }
 
-// The least working start at or after `from` where units are free up to the work's end.
-pub fn earliest_resumable(t: ResourceTimeline, from: u64, work: u64, units: u32) -> Resumable
+// The least working start at or after `from` where units are free up to the work's end, and that end.
+pub fn earliest_resumable(
+    t: ResourceTimeline,
+    from: u64,
+    work: u64,
+    units: u32,
+) -> Option<(u64, u64)>
     requires { (valid t ≡ true) × (from ≤ last_asked) × (work ≤ longest_span) }
     ensures { resumable_of result ≡ resumed t work (earliest_resumable t from work units) }
 {
     if units > t.capacity {
-        return Resumable {
-            start: 0,
-            end: WorkEnd::Nothing,
-        };
+        return None;
     }
     first_resumable(t, from, work, units)
 }

@@ -2,51 +2,45 @@
 // `timeline_loader`.
 #![tactic(auto)]
 
-ghost use Rattle.std.specs.Prelude.{◌≡◌, true};
+ghost use Rattle.std.specs.Prelude.{◌≡◌, true, IfOk};
+ghost use Rattle.calendar.specs.Replies.{added_of};
 ghost use Rattle.calendar.specs.Valid as calendar;
 ghost use Rattle.calendar.specs.Add.{add_window, add_block};
+ghost use Rattle.timeline.specs.Replies.{booked_of};
 ghost use Rattle.timeline.specs.Valid.{valid};
 ghost use Rattle.timeline.specs.Book.{calendar_reply};
 
-use calendar::Added;
-use timeline::{Booked, ResourceTimeline};
+use calendar::{Calendar, Refusal};
+use timeline::ResourceTimeline;
 
 // The diary's reply, given its calendar's: 15 a diary that breaks the rules, then the calendar's number.
-pub fn calendar_reply(t: ResourceTimeline, added: Added) -> Booked
-    ensures value { result ≡ calendar_reply t added }
-    ensures timeline_value { valid t ≡ true → calendar.valid added.calendar ≡ true → valid result.timeline ≡ true }
+#[tactic(auto, unfolding(timeline::specs::Book::calendar_reply, timeline::specs::Diary::with_calendar))]
+pub fn calendar_reply(
+    t: ResourceTimeline,
+    added: Result<Calendar, Refusal>,
+) -> Result<ResourceTimeline, Refusal>
+    ensures value { booked_of t result ≡ calendar_reply t (added_of t.calendar added) }
+    ensures timeline_value { IfOk result (λ d. valid t ≡ true → IfOk added (λ c. calendar.valid c ≡ true) → valid d ≡ true) }
 {
     if !timeline::is_valid(t) {
-        return Booked {
-            refusal: 15,
-            timeline: t,
-        };
+        return Err(Refusal::Invalid);
     }
-    let calendar = added.calendar;
-    let mut more = t;
-    more.calendar = calendar;
-    Booked {
-        refusal: added.refusal,
-        timeline: more,
-    }
+    let calendar = added?;
+    Ok(ResourceTimeline { calendar, ..t })
 }
 
 // Adds a window to the diary's calendar, or refuses as the calendar does.
-pub fn add_window(t: ResourceTimeline, start: u64, end: u64) -> Booked
-    ensures value { result ≡ calendar_reply t (add_window t.calendar start end) }
-    ensures timeline_value { valid t ≡ true → valid result.timeline ≡ true }
+pub fn add_window(t: ResourceTimeline, start: u64, end: u64) -> Result<ResourceTimeline, Refusal>
+    ensures value { booked_of t result ≡ calendar_reply t (add_window t.calendar start end) }
+    ensures timeline_value { IfOk result (λ d. valid t ≡ true → valid d ≡ true) }
 {
-    let c = t.calendar;
-    let added = c.add_window(start, end);
-    calendar_reply(t, added)
+    calendar_reply(t, t.calendar.add_window(start, end))
 }
 
 // Adds a block to the diary's calendar, or refuses as the calendar does.
-pub fn add_block(t: ResourceTimeline, start: u64, end: u64) -> Booked
-    ensures value { result ≡ calendar_reply t (add_block t.calendar start end) }
-    ensures timeline_value { valid t ≡ true → valid result.timeline ≡ true }
+pub fn add_block(t: ResourceTimeline, start: u64, end: u64) -> Result<ResourceTimeline, Refusal>
+    ensures value { booked_of t result ≡ calendar_reply t (add_block t.calendar start end) }
+    ensures timeline_value { IfOk result (λ d. valid t ≡ true → valid d ≡ true) }
 {
-    let c = t.calendar;
-    let added = c.add_block(start, end);
-    calendar_reply(t, added)
+    calendar_reply(t, t.calendar.add_block(start, end))
 }

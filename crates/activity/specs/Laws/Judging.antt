@@ -8,7 +8,6 @@ use Rattle.cells.specs.Laws.Basics.{and_split, and-join, or_left, or_right, unre
 use Rattle.activity.specs.declared.ActivityDuration.{ActivityDuration}
 use Rattle.activity.specs.declared.ResourceTiming.{ResourceTiming}
 use Rattle.activity.specs.declared.ResourceTiming.TheVariants.{Nothing, Speed, Duration}
-use Rattle.activity.specs.declared.Timed.{Timed}
 use Rattle.activity.specs.declared.ResourceRequirement.{ResourceRequirement}
 use Rattle.activity.specs.declared.Activity.{Activity}
 use Rattle.activity.specs.Durations.{untimed, timing_of}
@@ -20,10 +19,10 @@ use Rattle.activity.specs.Lawful.{Short, LawfulTiming, Lawful}
 
 -- the timings of an order in range
 abbrev all_short : Activity → Bool
-all_short a = every (λ t. timing_short t.timing) a.timings
+all_short a = every timing_short a.timings
 
 abbrev all_speeds : Activity → Bool
-all_speeds a = every (λ t. timing_speed t.timing) a.timings
+all_speeds a = every timing_speed a.timings
 
 module _ (a : Activity) (ready : ℕ) where
   -- 1: each part of `times_right` by itself
@@ -153,7 +152,7 @@ module _ (a : Activity) (ready : ℕ) (e : activity_refusal a ready ≡ 0) where
         release_range = t2.0;
         lawful = record {
           base_short = short-says a.duration t3.0;
-          each = λ n. timing-says (timing_of a.timings n) (every-at (λ (t : Timed). timing_short t.timing) a.timings n untimed refl t3.1) (every-at (λ (t : Timed). timing_speed t.timing) a.timings n untimed refl p.speeds);
+          each = λ n. timing-says (timing_of a.timings n) (every-at timing_short a.timings n untimed refl t3.1) (every-at timing_speed a.timings n untimed refl p.speeds);
         };
         few = ltb-false 4 a.len p.few;
         some = λ i h. leb-true 1 (get_or (requirements_of a) i no_requirement).quantity (every_in quantity_right (requirements_of a) i no_requirement h q.0);
@@ -178,8 +177,8 @@ usage-is q h = rw (le-leb 1 q.usage h.0, le-leb q.usage 10000 h.1) refl
 pub accepted-is : (a : Activity) (ready : ℕ) → Accepted a ready → activity_refusal a ready ≡ 0
 unfolding quantities_right
 accepted-is a ready c =
-    let t = every_of (λ (t : Timed). timing_short t.timing) a.timings untimed (λ i h. (timing-is (timing_of a.timings i) (c.lawful.each i)).0) in
-    let s = every_of (λ (t : Timed). timing_speed t.timing) a.timings untimed (λ i h. (timing-is (timing_of a.timings i) (c.lawful.each i)).1) in
+    let t = every_of timing_short a.timings untimed (λ i h. (timing-is (timing_of a.timings i) (c.lawful.each i)).0) in
+    let s = every_of timing_speed a.timings untimed (λ i h. (timing-is (timing_of a.timings i) (c.lawful.each i)).1) in
     let q = every_of quantity_right (requirements_of a) no_requirement (λ i h. le-leb 1 (get_or (requirements_of a) i no_requirement).quantity (c.some i h)) in
     let u = every_of usage_right (requirements_of a) no_requirement (λ i h. usage-is (slice_index_or (requirements_of a) i no_requirement) (c.used i h)) in
     let r = times-right a ready c.ready_range c.release_range (short-is a.duration c.lawful.base_short) t in

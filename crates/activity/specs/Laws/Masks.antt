@@ -1,7 +1,8 @@
 -- Required skills as masks.
-use Rattle.std.specs.Prelude.{◌≡◌, ℕ, zero, suc, ◌/◌, ◌%◌, ◌^◌, ◌<◌, Bool, true, false, leb, ◌≢◌, bit_and, nat_le}
+use Rattle.std.specs.Prelude.{◌≡◌, ℕ, zero, suc, ◌/◌, ◌%◌, ◌^◌, ◌<◌, Bool, true, false, leb, ◌≢◌, bit_and, nat_eq, nat_le}
 use Rattle.std.specs.Prelude.{refl}
-use Rattle.std.proofs.Common.{pow-suc, arith, le-leb, leb-true}
+use Rattle.std.proofs.Common.{pow-suc, arith, le-leb, leb-true, sym, eqb-true}
+use Rattle.std.proofs.lemmas.Bool.{eqb-false}
 use Rattle.std.specs.Int.Bits.{and_step, and_zero_l}
 use Rattle.cells.specs.Laws.Basics.{and_split}
 use Rattle.activity.specs.Serving.{covers}
@@ -30,3 +31,11 @@ covers-no n a b lt ne = go (covers n a b) refl
     go : (t : Bool) → covers n a b ≡ t → t ≡ false
     go true e = absurd (ne (covers-back n a b lt e))
     go false e = refl
+
+-- the test of the code
+pub covers-mask : (n a b : ℕ) → a < 2 ^ n → nat_eq (bit_and a b) a ≡ covers n a b
+covers-mask n a b lt = go (nat_eq (bit_and a b) a) refl
+  where
+    go : (t : Bool) → nat_eq (bit_and a b) a ≡ t → t ≡ covers n a b
+    go true e = sym (covers-yes n a b (eqb-true (bit_and a b) a e))
+    go false e = sym (covers-no n a b lt (eqb-false (bit_and a b) a e))

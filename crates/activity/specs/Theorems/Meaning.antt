@@ -1,6 +1,6 @@
 -- What the definitions of an order amount to: which own durations win, what a process time is in exact cases and how near it is
 -- otherwise, how large durations get, and what serving means bit by bit.
-use Rattle.std.specs.Prelude.{◌≡◌, ℕ, zero, suc, ◌+◌, ◌-◌, ◌*◌, ◌/◌, ◌%◌, ◌^◌, ◌<◌, ◌≤◌, Bool, true, false, cond, T, ◌⊎◌, List, [], ◌∷◌, length, get_or, pos, negsuc, ◌==◌, ◌≢◌, nat_eq, nat_le, nat_lt, slice_index_or}
+use Rattle.std.specs.Prelude.{◌≡◌, ℕ, zero, suc, ◌+◌, ◌-◌, ◌*◌, ◌/◌, ◌%◌, ◌^◌, ◌<◌, ◌≤◌, Bool, true, false, cond, T, ◌⊎◌, List, [], ◌∷◌, length, get_or, pos, negsuc, ◌==◌, ◌≢◌, nat_eq, nat_le, nat_lt, slice_index_or, Option, Some, None}
 use Rattle.std.proofs.Math.Path.{refl}
 use Rattle.std.proofs.Common.{sym, ap, ◌∙◌, subst, inl, inr, ⊎_elim, le_trans, le_of_lt, lt_of_lt_of_le, zero-lt-suc, mul-pos, mul-one, one-mul, mul_assoc, mul_right_comm, div-one, eq-or-lt_of_le, arith, lit≤, pow-add, pow_mono, shl_lt, lt-ltb, le-ltb, le-leb, leb-true, eq-eqb, ne_eqb, eqb-true}
 use Rattle.std.proofs.Math.Nat.{div-eq_of_lt-le, div-div-eq-div-mul, pow-succ'}
@@ -14,10 +14,7 @@ use Rattle.cells.specs.Laws.Basics.{and_split, and-join, lt-or-ge}
 use Rattle.activity.specs.declared.ActivityDuration.{ActivityDuration}
 use Rattle.activity.specs.declared.ResourceTiming.{ResourceTiming}
 use Rattle.activity.specs.declared.ResourceTiming.TheVariants.{Nothing, Speed, Duration}
-use Rattle.activity.specs.declared.Timed.{Timed}
 use Rattle.activity.specs.declared.ResourceRequirement.{ResourceRequirement}
-use Rattle.activity.specs.declared.Release.{Release}
-use Rattle.activity.specs.declared.Release.TheVariants.{Absent, At}
 use Rattle.activity_speeds.specs.Speeds.{one, is_speed, half_up, round_away, process_at, Near, WithinPower}
 use Rattle.activity.specs.Durations.{timing_of, held_timings, total, Leading, nobody, owned, greater, greatest, product, settled, duration_on}
 use Rattle.calendar.specs.Sets.{bit}
@@ -93,7 +90,7 @@ pub process-slower : (base k : ℕ) → base ≤ 2 ^ 53 → base * 2 ^ suc k < 2
 process-slower base k h l = process-whole base (fin false 1 (negsuc k)) (base * 2 ^ suc k) h tt l (sym (mul-one (base * 2 ^ suc k)))
 
 -- One resource held, with a speed s: the product is 1.0 * s, which is s, so that the result times s is within 0.501 * s of the base.
-module _ (base : ActivityDuration) (timings : List Timed) (n : ℕ) (s : Float) (F : fits binary64 s ≡ true) (k : is_speed s ≡ true) (e : timing_of timings n ≡ Speed s) where
+module _ (base : ActivityDuration) (timings : List ResourceTiming) (n : ℕ) (s : Float) (F : fits binary64 s ≡ true) (k : is_speed s ≡ true) (e : timing_of timings n ≡ Speed s) where
   pub single : duration_on base timings (n ∷ []) ≡ record { setup = base.setup; process = process_at base.process s; teardown = base.teardown }
   unfolding duration_on product greatest
   single =
@@ -109,7 +106,7 @@ pub record Bounded (d : ActivityDuration) : Type 0 where
   pub process_range : d.process ≤ 2 ^ 52
   pub teardown_range : d.teardown ≤ 2 ^ 36
 
-pub duration-bounded : (base : ActivityDuration) (timings : List Timed) (held : List ℕ) → Lawful base timings → length held ≤ 8 → Bounded (duration_on base timings held)
+pub duration-bounded : (base : ActivityDuration) (timings : List ResourceTiming) (held : List ℕ) → Lawful base timings → length held ≤ 8 → Bounded (duration_on base timings held)
 unfolding duration_on
 duration-bounded base timings held l h =
     go (greatest nobody (held_timings timings held)) (greatest-lawful timings l.each held nobody tt)
@@ -185,7 +182,7 @@ none-leads (t ∷ ts) h = rw (skip t (h 0)) (none-leads ts (λ k. h (suc k)))
     skip (Speed s) h = refl
     skip (Duration d) h = absurd (h d refl)
 
-module _ (base : ActivityDuration) (timings : List Timed) (held : List ℕ) where
+module _ (base : ActivityDuration) (timings : List ResourceTiming) (held : List ℕ) where
   -- own durations that win are the order's ..
   pub own-wins : (d : ActivityDuration) → Wins (held_timings timings held) d → duration_on base timings held ≡ d
   unfolding duration_on
@@ -319,12 +316,12 @@ serves-is q number kind skills s =
     s.named
 
 -- Ready: never before ready, and an instant where both are
-pub ready-least : (r : Release) (ready : ℕ) → ready ≤ ready_of r ready
+pub ready-least : (r : Option ℕ) (ready : ℕ) → ready ≤ ready_of r ready
 unfolding ready_of
-ready-least Absent ready = omega arith
-ready-least (At release) ready = omega arith
+ready-least None ready = omega arith
+ready-least (Some release) ready = omega arith
 
-pub ready_range : (r : Release) (ready : ℕ) → release_right r ≡ true → ready ≤ 2 ^ 42 → ready_of r ready ≤ 2 ^ 42
+pub ready_range : (r : Option ℕ) (ready : ℕ) → release_right r ≡ true → ready ≤ 2 ^ 42 → ready_of r ready ≤ 2 ^ 42
 unfolding ready_of release_right
-ready_range Absent ready e h = h
-ready_range (At release) ready e h = omega (arith, leb-true release (2 ^ 42) e)
+ready_range None ready e h = h
+ready_range (Some release) ready e h = omega (arith, leb-true release (2 ^ 42) e)

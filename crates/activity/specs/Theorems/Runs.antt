@@ -1,5 +1,5 @@
 -- Durations, the edges of speeds and of an order, and who serves, on the definitions: what the marked runs do not show.
-use Rattle.std.specs.Prelude.{◌≡◌, ℕ, ◌^◌, true, false, [], ◌∷◌, pos, negsuc}
+use Rattle.std.specs.Prelude.{◌≡◌, ℕ, ◌^◌, true, false, [], ◌∷◌, pos, negsuc, None}
 use Rattle.std.specs.Prelude.{refl, Float}
 use Rattle.std.specs.Float.{nan, inf, fin, binary64}
 use Rattle.std.specs.Float.Ieee.{of_bits, le, eq, mul, div, of_int}
@@ -7,8 +7,6 @@ use Rattle.calendar.specs.Add.{empty}
 use Rattle.activity.specs.declared.ActivityDuration.{ActivityDuration}
 use Rattle.activity.specs.declared.ResourceTiming.{ResourceTiming}
 use Rattle.activity.specs.declared.ResourceTiming.TheVariants.{Speed, Duration}
-use Rattle.activity.specs.declared.Timed.{Timed}
-use Rattle.activity.specs.declared.Release.TheVariants.{Absent}
 use Rattle.activity.specs.declared.Activity.{Activity}
 use Rattle.activity_speeds.specs.Speeds.{one, quarter, four, half_up, round_away, process_at, is_speed}
 use Rattle.activity.specs.Durations.{untimed, greatest, product, duration_on}
@@ -28,11 +26,11 @@ half = fin false 1 (negsuc 0)
 abbrev pub lasting : ℕ → ℕ → ℕ → ActivityDuration
 lasting s p t = record { setup = s; process = p; teardown = t }
 
-abbrev pub at : Float → Timed
-at s = record { timing = Speed s }
+abbrev pub at : Float → ResourceTiming
+at s = Speed s
 
-abbrev pub own : ℕ → ℕ → ℕ → Timed
-own s p t = record { timing = Duration (lasting s p t) }
+abbrev pub own : ℕ → ℕ → ℕ → ResourceTiming
+own s p t = Duration (lasting s p t)
 
 -- a speed leaves setup and teardown · one resource held twice · no timing · own durations: the greatest total wins, the first among
 -- equals, and speeds beside them do not count
@@ -74,9 +72,9 @@ speeds = refl
 -- an order with one requirement and timing
 abbrev order : ℕ → ℕ → ℕ → ℕ → ResourceTiming → Activity
 order category process quantity usage timing =
-    let bare = order_with category (lasting 0 process 0) false Absent empty 0 in
+    let bare = order_with category (lasting 0 process 0) false None empty 0 in
     let wanted = with_requirements bare (record { kind = 0; candidates = 0; skills = 0; quantity = quantity; usage = usage } ∷ []) 1 in
-    with_timings wanted (record { timing = timing } ∷ [])
+    with_timings wanted (timing ∷ [])
 
 -- the last value taken and the first refused, of each; speed 4, the double behind it, a NaN
 pub edges :

@@ -1,11 +1,12 @@
 -- `activity_durations::duration_on` meets its contract.
-use borrow.Author.Rules.{rules}
-use borrow.Author.Tests.{not-true, not-false}
-use Rattle.std.specs.Prelude.{◌≡◌, ℕ, true, false, List, take}
-use mathlib.Core.Path.{refl, sym, ◌∙◌}
+use Rattle.std.specs.Prelude.{◌≡◌, ℕ, true, false, List, take, refl}
+use Rattle.std.proofs.Common.{sym, ◌∙◌}
+use Rattle.std.proofs.lemmas.Result.{err_from_is_err_and}
 use Rattle.calendar.specs.Refusals.{refused_or}
-use Rattle.calendar.specs.Laws.Refusals.{refused-by}
+use Rattle.calendar.specs.Replies.{number_of}
+use Rattle.calendar.specs.Laws.Refusals.{refused_as}
 use Rattle.calendar.specs.Valid.{valid}
+use Rattle.calendar.specs.declared.refusal.Refusal.{Refusal}
 use Rattle.activity.specs.declared.ActivityDuration.{ActivityDuration}
 use Rattle.activity.specs.declared.Activity.{Activity}
 use Rattle.activity.specs.Durations.{duration_on}
@@ -22,9 +23,9 @@ module _ (a : Activity) (held : List ℕ) (count : ℕ) where
   unfolding duration_reply
   held-wrong v h = sym (rw (v, h) refl)
 
-  order-wrong : (n : ℕ) → valid a.calendar ≡ true → held_right held count ≡ true → n ≡ activity_refusal a 0 → (n ≡ 0 → ⊥) → refused n ≡ duration_reply a held count
+  order-wrong : (e : Refusal) → valid a.calendar ≡ true → held_right held count ≡ true → number_of e ≡ activity_refusal a 0 → refused (number_of e) ≡ duration_reply a held count
   unfolding duration_reply
-  order-wrong n v h e z = refused-by refused n (lasts (duration_on a.duration a.timings (take count held))) z ∙ sym (rw (v, h, ← e) refl)
+  order-wrong e v h n = refused_as refused e (activity_refusal a 0) (lasts (duration_on a.duration a.timings (take count held))) n ∙ sym (rw (v, h) refl)
 
   none-wrong : (d : ActivityDuration) → valid a.calendar ≡ true → held_right held count ≡ true → activity_refusal a 0 ≡ 0 → d ≡ duration_on a.duration a.timings (take count held)
       → lasts d ≡ duration_reply a held count
@@ -37,27 +38,20 @@ returns-then-not-is_valid c = calendar-wrong _ _ _ (sym c.is_valid.ensures ∙ c
 
 pub returns-then-not-held_right : goal.returns-then-not-held_right
 unfolding reply_of
-returns-then-not-held_right c =
-    let v = sym c.is_valid.ensures ∙ c.if-not-is_valid.false in
-    let e = sym c.held_right.ensures ∙ c.if-not-held_right.true in
-    held-wrong _ _ _ v e
+returns-then-not-held_right c = held-wrong _ _ _ (sym c.is_valid.ensures ∙ c.if-not-is_valid.false) (sym c.held_right.ensures ∙ c.if-not-held_right.true)
 
-pub returns-then-n-ne0 : goal.returns-then-n-ne0
+pub returns-in_err-refusal : goal.returns-in_err-refusal
 unfolding reply_of
-returns-then-n-ne0 c =
-    let v = sym c.is_valid.ensures ∙ c.if-not-is_valid.false in
-    let h = sym c.held_right.ensures ∙ c.if-not-held_right.false in
-    order-wrong _ _ _ _ v h c.refusal-n.ensures c.if-n-ne0.true
+returns-in_err-refusal c =
+    let p = err_from_is_err_and c.from_residual.result c.from_residual.ensures.1 in
+    rw (p.1, p.2) (order-wrong _ _ _ _ (sym c.is_valid.ensures ∙ c.if-not-is_valid.false) (sym c.held_right.ensures ∙ c.if-not-held_right.false) c.in_err-refusal.ensures)
 
 pub duration_on-requires : goal.duration_on-requires
 duration_on-requires c =
     let h = held-says _ _ (sym c.held_right.ensures ∙ c.if-not-held_right.false) in
-    record { count_bound = h.0; by_index = h.1; lawful = (accepted _ 0 (sym c.refusal-n.ensures ∙ c.if-n-ne0.false)).lawful }
+    record { count_bound = h.0; by_index = h.1; lawful = (accepted _ 0 (sym c.in_ok-refusal.ensures)).lawful }
 
 pub returns : goal.returns
 unfolding reply_of
 returns c =
-    let v = sym c.is_valid.ensures ∙ c.if-not-is_valid.false in
-    let h = sym c.held_right.ensures ∙ c.if-not-held_right.false in
-    let e = sym c.refusal-n.ensures ∙ c.if-n-ne0.false in
-    none-wrong _ _ _ _ v h e c.duration_on.ensures
+    none-wrong _ _ _ _ (sym c.is_valid.ensures ∙ c.if-not-is_valid.false) (sym c.held_right.ensures ∙ c.if-not-held_right.false) (sym c.in_ok-refusal.ensures) c.duration_on.ensures

@@ -1,6 +1,6 @@
 -- What the definitions amount to: where a number stands, what a valid board says of each resource, setups and transports.
 use Rattle.std.proofs.Common.{leb-true, eqb-true, lt-ltb, eq-eqb, ap, ◌∙◌, arith}
-use Rattle.std.specs.Prelude.{Bool, true, false, cond, ◌&&◌, ◌||◌, ◌≡◌, refl, ℕ, zero, suc, ◌+◌, ◌*◌, ◌/◌, ◌%◌, ◌^◌, ◌≤◌, ◌<◌, max, leb, eqb, ℤ, pos, negsuc, get_or}
+use Rattle.std.specs.Prelude.{Bool, true, false, cond, ◌&&◌, ◌||◌, ◌≡◌, refl, ℕ, zero, suc, ◌+◌, ◌*◌, ◌/◌, ◌%◌, ◌^◌, ◌≤◌, ◌<◌, max, leb, eqb, ℤ, pos, negsuc, get_or, Option, Some, None}
 use Rattle.std.proofs.lemmas.List.{get_or-replicate}
 use Rattle.cells.specs.Laws.Basics.{and_split}
 use Rattle.calendar.specs.Search.{at, least_from, is_at}
@@ -11,8 +11,6 @@ use Rattle.board.specs.Transport.{greatest_transport, transport_to}
 use Rattle.board.specs.Places.{anywhere}
 use Rattle.board.specs.Valid.{duration_right, entry_right, is_zero, own_right, entry_cell, matrix_right, companion_cell, companions_right, last_right, resource_right, transport_cell, transport_right, valid, resource_blank}
 use Rattle.board.specs.declared.Board.{Board}
-use Rattle.board.specs.declared.LastCategory.{LastCategory}
-use Rattle.board.specs.declared.LastCategory.TheVariants.{Nothing, Category}
 use Rattle.board.specs.declared.Resource.{Resource}
 use Rattle.board.specs.declared.TransitionMatrix.{TransitionMatrix}
 use Rattle.cells.specs.Every.{every_from}
@@ -120,7 +118,7 @@ greatest-small on b v origins to (suc n) l m = rw (greatest-next on b.transport 
     go false h = omega arith
 
 -- a setup is at most 2^36
-pub setup-small : (m : TransitionMatrix) (last : LastCategory) (this own : ℕ) → matrix_right m ≡ true → last_right last ≡ true → this ≤ 15 → own ≤ 2 ^ 36
+pub setup-small : (m : TransitionMatrix) (last : Option ℕ) (this own : ℕ) → matrix_right m ≡ true → last_right last ≡ true → this ≤ 15 → own ≤ 2 ^ 36
     → setup_ms m last this own ≤ 2 ^ 36
 unfolding setup_ms matrix_setup matrix_right last_right duration_right entry_right is_zero entry_or
 setup-small m last this own h r l o = go m.present refl
@@ -151,10 +149,10 @@ setup-small m last this own h r l o = go m.present refl
     own-small false (pos n) e = omega (arith, eqb-true n 0 e)
     own-small present (negsuc n) e = omega arith
 
-    by-matrix : (k : LastCategory) → last_right k ≡ true → matrix_setup m k this ≤ 2 ^ 36
-    by-matrix Nothing e =
+    by-matrix : (k : Option ℕ) → last_right k ≡ true → matrix_setup m k this ≤ 2 ^ 36
+    by-matrix None e =
         entry-small p (get_or m.initials this (pos 0)) (entry_or m.initial 0) (from_at _ 0 16 parts.3 this (omega arith) (omega arith)) (own-small p m.initial parts.1)
-    by-matrix (Category c) e =
+    by-matrix (Some c) e =
         let small : c ≤ 15 = leb-true c 15 e in
         entry-small p (get_or m.transitions (16 * c + this) (pos 0)) _ (from_at _ 0 256 parts.2 (16 * c + this) (omega arith) (omega arith)) (other (eqb c this))
       where

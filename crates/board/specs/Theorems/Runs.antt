@@ -1,8 +1,7 @@
 -- Setups and transport, on the definitions.
-use Rattle.std.specs.Prelude.{ℕ, ◌≡◌, refl, [], ◌∷◌, replicate, set, pos}
+use Rattle.std.specs.Prelude.{ℕ, ◌≡◌, refl, [], ◌∷◌, replicate, set, pos, Some, None}
 use Rattle.calendar.specs.Search.{least_from, greatest_of, is_at}
 use Rattle.board.specs.declared.TransitionMatrix.{TransitionMatrix}
-use Rattle.board.specs.declared.LastCategory.TheVariants.{Nothing, Category}
 use Rattle.board.specs.declared.Resource.{Resource}
 use Rattle.board.specs.declared.Board.{Board}
 use Rattle.timeline.specs.Diary.{blank_diary}
@@ -19,12 +18,12 @@ matrix = with_initial 3 (pos 4) (with_transition 1 2 (pos 5) (new_matrix (pos 7)
 -- the pair (1, 2) · absent: an equal pair 0, another pair the default · the first entry of 3 · absent: the initial · no matrix: the
 -- order's own
 pub setups :
-    (setup_ms matrix (Category 1) 2 100
-    ∷ setup_ms matrix (Category 1) 1 100
-    ∷ setup_ms matrix (Category 2) 1 100
-    ∷ setup_ms matrix Nothing 3 100
-    ∷ setup_ms matrix Nothing 2 100
-    ∷ setup_ms blank_matrix (Category 1) 2 100
+    (setup_ms matrix (Some 1) 2 100
+    ∷ setup_ms matrix (Some 1) 1 100
+    ∷ setup_ms matrix (Some 2) 1 100
+    ∷ setup_ms matrix None 3 100
+    ∷ setup_ms matrix None 2 100
+    ∷ setup_ms blank_matrix (Some 1) 2 100
     ∷ [])
     ≡ 5 ∷ 0 ∷ 7 ∷ 4 ∷ 9 ∷ 100 ∷ []
 unfolding entry_or matrix_setup setup_ms

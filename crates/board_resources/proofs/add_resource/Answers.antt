@@ -1,28 +1,29 @@
 -- `board_resources::add_resource` meets its contract.
-use borrow.Author.Rules.{rules}
-use native.Mathlib.Omega.{arith}
-use mathlib.Core.Path.{◌≡◌, sym, ◌∙◌}
-use Rattle.board.specs.Enter.{add_refusal, with_new, add_resource_reply}
-use Rattle.board.specs.Laws.Replying.{refused-by, taken-by}
+use Rattle.std.proofs.Common.{sym, arith}
+use Rattle.std.proofs.lemmas.Result.{err_from_is_err_and}
+use Rattle.board.specs.Enter.{with_new, add_resource_reply}
+use Rattle.board.specs.Laws.Replying.{refused_as, taken-by}
 use Rattle.board_resources.specs.Laws.Replying.{add-taken}
 use Rattle.board_resources.proofs.add_resource.Goals as goal
 
-pub returns-then-refusal-ne0 : goal.returns-then-refusal-ne0
+pub returns-in_err-check_add : goal.returns-in_err-check_add
 unfolding add_resource_reply
-returns-then-refusal-ne0 c = refused-by _ _ _ _ c.add_refusal-refusal.ensures c.if-refusal-ne0.true
+returns-in_err-check_add c =
+    let p = err_from_is_err_and c.from_residual.result c.from_residual.ensures.1 in
+    rw (p.1, p.2) (refused_as _ _ _ _ c.in_err-check_add.ensures)
 
-pub companion_cells-cells-requires : goal.companion_cells-cells-requires
-companion_cells-cells-requires c = (add-taken _ _ _ _ (sym c.add_refusal-refusal.ensures ∙ c.if-refusal-ne0.false)).few
+pub companion_cells-requires : goal.companion_cells-requires
+companion_cells-requires c = (add-taken _ _ _ _ (sym c.in_ok-check_add.ensures)).few
 
-pub offset_bounds-b-n : goal.offset_bounds-b-n
-offset_bounds-b-n c = record { fits = omega (arith, (add-taken _ _ _ _ (sym c.add_refusal-refusal.ensures ∙ c.if-refusal-ne0.false)).room) }
+pub offset_bounds-b-board : goal.offset_bounds-b-board
+offset_bounds-b-board c = record { fits = omega (arith, (add-taken _ _ _ _ (sym c.in_ok-check_add.ensures)).room) }
 
-pub bounds-b-n : goal.bounds-b-n
-bounds-b-n c = omega (arith, (add-taken _ _ _ _ (sym c.add_refusal-refusal.ensures ∙ c.if-refusal-ne0.false)).room)
+pub bounds-b-board : goal.bounds-b-board
+bounds-b-board c = (add-taken _ _ _ _ (sym c.in_ok-check_add.ensures)).room
 
 pub overflow_add-b : goal.overflow_add-b
-overflow_add-b c = record { fits = omega (arith, (add-taken _ _ _ _ (sym c.add_refusal-refusal.ensures ∙ c.if-refusal-ne0.false)).room) }
+overflow_add-b c = record { fits = omega (arith, (add-taken _ _ _ _ (sym c.in_ok-check_add.ensures)).room) }
 
 pub returns : goal.returns
 unfolding add_resource_reply with_new
-returns c = rw (c.companion_cells-cells.ensures, c.blank_resource-r.ensures) (taken-by _ _ _ (sym c.add_refusal-refusal.ensures ∙ c.if-refusal-ne0.false))
+returns c = rw (c.companion_cells.ensures, c.blank_resource.ensures) (taken-by _ _ _ (sym c.in_ok-check_add.ensures))

@@ -1,7 +1,7 @@
 -- An accepted entry leaves a valid board valid, and so does a refused one, which changes nothing.
 use borrow.Author.Tests.{not-false}
 use Rattle.std.proofs.Math.Bool.{true, not}
-use Rattle.std.specs.Prelude.{◌&&◌, ◌||◌, List, ◌≡◌, refl, ℕ, ◌-◌, ℤ, length}
+use Rattle.std.specs.Prelude.{◌&&◌, ◌||◌, List, ◌≡◌, refl, ℕ, ℤ, length}
 use Rattle.std.proofs.Math.Dec.{leb}
 use Rattle.cells.specs.Laws.Basics.{and_split, unrefused}
 use Rattle.board.specs.Enter.{add_resource_reply, matrix_refusal, new_matrix, set_matrix_reply, entry_refusal, set_transition_reply, set_initial_reply, set_transport_reply, put_refusal, put_timeline_reply}

@@ -1,26 +1,22 @@
 -- `board_transport::set_transport` meets its contract.
-use borrow.Author.Rules.{rules}
-use mathlib.Core.Path.{sym, ◌∙◌}
-use native.Mathlib.Omega.{arith}
+use Rattle.std.proofs.Common.{sym, arith}
+use Rattle.std.proofs.lemmas.Result.{err_from_is_err_and}
 use Rattle.board.specs.Enter.{set_transport_reply}
-use Rattle.board.specs.Laws.Replying.{refused-by, taken-by}
+use Rattle.board.specs.Laws.Replying.{refused_as, taken-by}
 use Rattle.board_transport.proofs.Replying.{transport-places}
 use Rattle.board_transport.proofs.set_transport.Goals as goal
 
-pub returns-then-refusal-ne0 : goal.returns-then-refusal-ne0
+pub returns-in_err-check_transport : goal.returns-in_err-check_transport
 unfolding set_transport_reply
-returns-then-refusal-ne0 c = refused-by _ _ _ _ c.transport_refusal-refusal.ensures c.if-refusal-ne0.true
+returns-in_err-check_transport c =
+    let p = err_from_is_err_and c.from_residual.result c.from_residual.ensures.1 in
+    rw (p.1, p.2) (refused_as _ _ _ _ c.in_err-check_transport.ensures)
 
-pub offset_bounds-b-k : goal.offset_bounds-b-k
-offset_bounds-b-k c =
-    let f = transport-places _ _ _ _ (sym c.transport_refusal-refusal.ensures ∙ c.if-refusal-ne0.false) in
-    record { fits = omega (arith, f.0, f.1) }
-
-pub bounds-b-k : goal.bounds-b-k
-bounds-b-k c =
-    let f = transport-places _ _ _ _ (sym c.transport_refusal-refusal.ensures ∙ c.if-refusal-ne0.false) in
+pub bounds-b-from : goal.bounds-b-from
+bounds-b-from c =
+    let f = transport-places _ _ _ _ (sym c.in_ok-check_transport.ensures) in
     omega (arith, f.0, f.1)
 
 pub returns : goal.returns
 unfolding set_transport_reply
-returns c = taken-by _ _ _ (sym c.transport_refusal-refusal.ensures ∙ c.if-refusal-ne0.false)
+returns c = taken-by _ _ _ (sym c.in_ok-check_transport.ensures)

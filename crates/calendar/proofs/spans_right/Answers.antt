@@ -1,10 +1,7 @@
-use borrow.Author.Rules.{rules}
-use borrow.Author.Tests.{not-true, not-false, le-leb, lt-leb}
-use mathlib.Core.Path.{◌≡◌, refl, sym, ◌∙◌}
-use Prim.Native.Nat.{◌-◌, ◌≤◌}
+use borrow.Author.Tests.{le-leb, lt-leb}
+use mathlib.Core.Path.{refl, sym, ◌∙◌}
 use native.Mathlib.Omega.{arith}
-use Rattle.calendar.specs.Valid.{cell_at, spans_right}
-use Rattle.cells.specs.Every.{every_from}
+use Rattle.calendar.specs.Valid.{spans_right}
 use Rattle.cells.specs.Laws.Every.{from-stop, from_more, from-done}
 use Rattle.calendar.proofs.spans_right.Goals as goal
 

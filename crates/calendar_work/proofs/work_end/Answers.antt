@@ -1,10 +1,9 @@
 use borrow.Author.Rules.{rules}
 use mathlib.Core.Path.{sym}
-use Prim.Native.Nat.{◌+◌, ◌-◌, ◌^◌, ◌≤◌, ◌<◌}
+use Prim.Native.Nat.{◌+◌, ◌<◌}
 use native.Mathlib.Omega.{arith}
-use lib.ListN.{length}
-use Rattle.calendar_work.specs.Layout.{Edges, found_of}
-use Rattle.calendar_work.proofs.Walking.{edges-cells, even-not, odd-other, WalkedTo, going_start, going-pause, going_end, going-none, going_on}
+use Rattle.calendar_work.specs.Layout.{found_of}
+use Rattle.calendar_work.proofs.Walking.{edges-cells, even-not, odd-other, going_start, going-pause, going_end, going-none, going_on}
 use Rattle.calendar_work.proofs.work_end.Goals as goal
 
 pub cells_before-k-requires : goal.cells_before-k-requires

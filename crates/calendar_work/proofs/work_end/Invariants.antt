@@ -1,11 +1,8 @@
 -- `calendar_work::work_end` meets its contract. The loop: what is left of the work is left from here on (Walking).
-use borrow.Author.Rules.{rules}
-use mathlib.Core.Path.{sym}
-use Prim.Native.Nat.{◌+◌, ◌-◌, ◌^◌, ◌≤◌, ◌<◌}
-use native.Mathlib.Omega.{arith}
+use Prim.Native.Nat.{◌-◌, ◌^◌, ◌≤◌, ◌<◌}
 use lib.ListN.{length}
-use Rattle.calendar_work.specs.Layout.{Edges, found_of}
-use Rattle.calendar_work.proofs.Walking.{edges-cells, even-not, odd-other, WalkedTo, going_start, going-pause, going_end, going-none, going_on}
+use Rattle.calendar_work.specs.Layout.{Edges}
+use Rattle.calendar_work.proofs.Walking.{WalkedTo}
 use Rattle.calendar_work.proofs.work_end.Given as goal
 
 abbrev pub invariant-loop-k : goal.invariant-loop-k

@@ -2,7 +2,7 @@
 use borrow.Author.Rules.{rules}
 use borrow.Author.Tests.{not-true, not-false}
 use mathlib.Core.Path.{◌≡◌, ap, ◌∙◌}
-use Rattle.timeline.specs.declared.Booked.{Booked}
+use Rattle.timeline.specs.Replies.{Booked}
 use Rattle.timeline.specs.Book.{with_booking}
 use Rattle.scheduler.specs.Committing.{line_with}
 use Rattle.committing.proofs.Ahead.{book-taken, booked-category, booked-companion, booked-plain}

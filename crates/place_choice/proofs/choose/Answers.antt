@@ -1,219 +1,103 @@
-use borrow.Author.Rules.{rules}
-use borrow.Author.Tests.{not-true, not-false}
-use mathlib.Core.Path.{◌≡◌, sym, ap, ◌∙◌}
-use mathlib.Core.Logic.{⊎_elim}
-use Prim.Native.Nat.{◌/◌, ◌%◌}
-use native.Mathlib.Omega.{arith}
-use lib.ListN.{get_or, length, length-map}
+use Rattle.std.proofs.Common.{◌≡◌, ◌*◌, length, sym, ap, ◌∙◌, arith}
+use Rattle.activity.specs.Laws.Judging.{accepted}
 use Rattle.board.specs.Resources.{resource_at}
 use Rattle.board.specs.Laws.Facts.{rules_of}
-use Rattle.board.specs.Theorems.Meaning.{resource-of}
-use Rattle.timeline_fit.specs.Steps.{start_of}
-use Rattle.place_plans.specs.Plans.{no_plan, plan_with}
-use Rattle.place_plans.proofs.Planning.{order-lawful, category_range, way-small, arrival-is}
-use Rattle.place_rounds.specs.Tables.{requirement_at}
-use Rattle.place_rounds.specs.declared.Rounds.{Rounds}
-use Rattle.place_choice.proofs.Asking.{Next, Told, number-range, companions-range, span_small, count-is, diary-kept, units-some, from-small, told-nowhere, told-asked}
-use Rattle.place_choice.proofs.Stepping.{State, left, state-start, state-planned, left-planned, answers, state-settled, left-settled, state-known, left-known, next-asked, state-on, state-found, left-asked}
+use Rattle.place_plans.specs.Plans.{plan_with}
+use Rattle.place_plans.proofs.Planning.{order-lawful, category_range, way-small, arrival-is, planned-next}
+use Rattle.place_rounds.proofs.Noting.{through-start, kept-none, cell-known}
+use Rattle.place_rounds.proofs.Settling.{led-start}
+use Rattle.place_choice.proofs.Passing.{asked_here, answers, seeks, asked-next}
 use Rattle.place_choice.proofs.choose.Goals as goal
-use Rattle.place_choice.proofs.choose.Goals.{then-place-lt16, else-place-lt16}
+use Rattle.place_choice.proofs.choose.Goals.{then-is_asked, else-is_asked}
 
-pub loop-x-init : goal.loop-x-init
-loop-x-init c =
-    let n = c.begun-x.ensures in
-    rw c.unasked-g.ensures
-    (state-start c.args.b c.requires.0 c.args.a c.args.ready c.requires.1 c.requires.2 (search rules) _ _ (ap length c.no_plans-plans.ensures)
-    (ap (λ (x : Rounds). x.done) n) (ap (λ (x : Rounds). x.instant) n) (ap (λ (x : Rounds). x.choice.chosen) n) (ap (λ (x : Rounds). x.choice.instant) n))
-
-pub offset_bounds-b-planned : goal.offset_bounds-b-planned
-offset_bounds-b-planned c = record { fits = omega (arith, c.loop-x.invariant.few, c.if-planned-b.true) }
-
-pub bounds-b-planned : goal.bounds-b-planned
-bounds-b-planned c = omega (arith, c.loop-x.invariant.few, c.if-planned-b.true)
+pub loop-i-init : goal.loop-i-init
+loop-i-init c = record { few = (rules_of c.args.b c.requires.0).few; planned = record { long = ap length c.no_plans-plans.ensures; so = λ i l. absurd (omega arith) } }
 
 pub plan_of-requires : goal.plan_of-requires
 plan_of-requires c =
     let b = c.args.b in
     let a = c.args.a in
-    let i = c.loop-x.planned in
-    let l = c.if-planned-b.true in
+    let i = c.loop-i.i in
+    let l = c.loop-i-test.true in
     ((rules_of b c.requires.0).right i l, order-lawful b a c.args.ready c.requires.0 c.requires.1, category_range b a c.args.ready c.requires.0 c.requires.1, way-small b a c.args.ready c.requires.0 c.requires.1 i l)
 
-pub offset_bounds-plans-planned : goal.offset_bounds-plans-planned
-offset_bounds-plans-planned c = record { fits = omega (arith, c.loop-x.invariant.few, c.if-planned-b.true) }
-
-pub bounds-plans-planned : goal.bounds-plans-planned
-bounds-plans-planned c = omega (arith, c.loop-x.invariant.few, c.if-planned-b.true)
-
-pub overflow_add-planned : goal.overflow_add-planned
-overflow_add-planned c = record { fits = omega (arith, c.loop-x.invariant.few, c.if-planned-b.true) }
-
-pub loop-x-smaller-then-planned-b : goal.loop-x-smaller-then-planned-b
-loop-x-smaller-then-planned-b c =
-    let u = c.loop-x in
-    left-planned c.args.b c.requires.0 c.args.a c.args.ready c.requires.1 c.requires.2 u.plans u.asked u.starts u.x u.g u.planned u.k u.invariant (not-true _ c.loop-x-test.true) c.if-planned-b.true
-
-pub loop-x-preserved-then-planned-b : goal.loop-x-preserved-then-planned-b
-loop-x-preserved-then-planned-b c =
+pub loop-i-preserved : goal.loop-i-preserved
+loop-i-preserved c =
     let b = c.args.b in
     let a = c.args.a in
-    let u = c.loop-x in
-    let l = c.if-planned-b.true in
-    state-planned b c.requires.0 a c.args.ready c.requires.1 c.requires.2 u.plans u.asked u.starts u.x u.g u.planned u.k u.invariant (not-true _ c.loop-x-test.true) l c.plan_of.result
-    (c.plan_of.ensures ∙ ap (plan_with a (resource_at b u.planned)) (arrival-is b a c.args.ready c.requires.0 c.requires.1 u.planned l))
-    (search rules)
+    let i = c.loop-i.i in
+    let l = c.loop-i-test.true in
+    let v = c.loop-i.invariant in
+    record { few = v.few; planned = planned-next b a c.args.ready i c.loop-i.plans c.plan_of.result v.planned (omega (arith, l, v.few)) (c.plan_of.ensures ∙ ap (plan_with a (resource_at b i)) (arrival-is b a c.args.ready c.requires.0 c.requires.1 i l)) }
 
-pub overflow_mul-a : goal.overflow_mul-a
-overflow_mul-a c = record { fits = omega (arith, c.loop-x.invariant.four) }
-
-pub settled-x-requires : goal.settled-x-requires
-settled-x-requires c =
-    (c.loop-x.invariant.few, (c.args.ready, c.requires.1), c.requires.2)
-
-pub loop-x-smaller-then-k-a : goal.loop-x-smaller-then-k-a
-loop-x-smaller-then-k-a c =
+pub rounds-init : goal.rounds-init
+rounds-init c =
     let b = c.args.b in
-    let u = c.loop-x in
-    let all : u.planned ≡ b.len = omega (arith, u.invariant.most, c.if-planned-b.false) in
-    let goes = not-true _ c.loop-x-test.true in
-    let w = answers b c.requires.0 c.args.a c.args.ready c.requires.1 c.requires.2 u.plans u.asked u.starts u.x u.g u.planned u.k u.invariant goes all c.if-k-a.true in
-    left-settled b c.requires.0 c.args.a c.args.ready c.requires.1 c.requires.2 u.plans u.asked u.starts u.x u.g u.planned u.k u.invariant goes all c.if-k-a.true c.settled-x.result (c.settled-x.ensures b c.args.ready w (u.invariant.settled.goes goes).1).1
+    let a = c.args.a in
+    let k = accepted a c.args.ready c.requires.1 in
+    let v = c.loop-i.invariant in
+    record { few = v.few; four = k.few; led = record { soon = omega (arith, k.ready_range); led = led-start b c.requires.0 a c.args.ready }; kept = kept-none b a c.args.ready v.few k.few }
 
-pub loop-x-preserved-then-k-a : goal.loop-x-preserved-then-k-a
-loop-x-preserved-then-k-a c =
+pub loop-k-init : goal.loop-k-init
+loop-k-init c =
+    let v = c.rounds.invariant in
+    record { four = v.four; kept = v.kept; thru = through-start c.args.b c.args.a c.args.ready c.rounds.t c.rounds.starts }
+
+pub least_start-requires : goal.least_start-requires
+least_start-requires c =
     let b = c.args.b in
-    let u = c.loop-x in
-    let all : u.planned ≡ b.len = omega (arith, u.invariant.most, c.if-planned-b.false) in
-    let goes = not-true _ c.loop-x-test.true in
-    let w = answers b c.requires.0 c.args.a c.args.ready c.requires.1 c.requires.2 u.plans u.asked u.starts u.x u.g u.planned u.k u.invariant goes all c.if-k-a.true in
-    state-settled b c.requires.0 c.args.a c.args.ready c.requires.1 c.requires.2 u.plans u.asked u.starts u.x u.g u.planned u.k u.invariant goes all c.if-k-a.true c.settled-x.result (c.settled-x.ensures b c.args.ready w (u.invariant.settled.goes goes).1).0
+    let e = sym c.is_asked.ensures ∙ c.if-is_asked.true in
+    let z : c.loop-i.i ≡ c.args.b.len = omega (arith, c.loop-i-test.false) in
+    let planned = rw z at c.loop-i.invariant.planned in
+    (c.requires.3, (c.args.ready, seeks b c.args.a c.args.ready c.rounds.t c.loop-i.plans c.loop-k.k c.requires.0 c.requires.1 c.rounds.invariant.led.soon planned c.loop-k-test.true (asked_here _ _ _ e)))
 
-pub offset_bounds-asked-k : goal.offset_bounds-asked-k
-offset_bounds-asked-k c = record { fits = omega (arith, c.loop-x.invariant.four, c.if-k-a.false) }
+pub loop-k-preserved : goal.loop-k-preserved
+loop-k-preserved c =
+    let b = c.args.b in
+    let a = c.args.a in
+    let v = c.loop-k.invariant in
+    let r = c.rounds.invariant in
+    let k = c.loop-k.k in
+    let l = c.loop-k-test.true in
+    let z : c.loop-i.i ≡ c.args.b.len = omega (arith, c.loop-i-test.false) in
+    let planned = rw z at c.loop-i.invariant.planned in
+    elim c.if-is_asked.branch [
+      | then-is_asked w ↦
+          let here = asked_here _ _ _ (sym c.is_asked.ensures ∙ w.if-is_asked.true) in
+          let s = seeks b a c.args.ready c.rounds.t c.loop-i.plans k c.requires.0 c.requires.1 r.led.soon planned l here in
+          let n = asked-next b c.requires.0 r.few a c.args.ready c.requires.1 c.rounds.t c.loop-k.asked c.loop-k.starts v.kept k l v.thru (omega (arith, l, v.four)) here _ (w.least_start.ensures c.args.ready s) in
+          rw (w.asked-is, w.starts-is) (record { four = v.four; kept = n.0; thru = n.1 })
+      | else-is_asked w ↦
+          rw (w.asked-is, w.starts-is) (record { four = v.four; kept = v.kept; thru = cell-known b c.requires.0 r.few a c.args.ready c.requires.1 c.rounds.t c.loop-k.asked c.loop-k.starts v.kept k l v.thru (sym c.is_asked.ensures ∙ w.if-is_asked.false) })
+    ]
 
-pub bounds-asked-k : goal.bounds-asked-k
-bounds-asked-k c = omega (arith, c.loop-x.invariant.four, c.if-k-a.false)
+pub settled-requires : goal.settled-requires
+settled-requires c = (c.rounds.invariant.few, (c.args.ready, c.requires.1), c.requires.2)
 
-pub offset_bounds-starts-k : goal.offset_bounds-starts-k
-offset_bounds-starts-k c = record { fits = omega (arith, c.loop-x.invariant.four, c.if-k-a.false) }
+pub returns-in-Break : goal.returns-in-Break
+returns-in-Break c =
+    let z : c.loop-i.i ≡ c.args.b.len = omega (arith, c.loop-i-test.false) in
+    let planned = rw z at c.loop-i.invariant.planned in
+    let e : c.loop-k.k ≡ 16 * c.args.a.len = omega (arith, c.loop-k-test.false) in
+    let r = c.rounds.invariant in
+    let o = answers c.args.b c.args.a c.args.ready c.rounds.t c.loop-i.plans c.loop-k.starts c.requires.0 c.requires.1 r.few r.led.soon planned (rw e at c.loop-k.invariant.thru) in
+    let w = c.in-Break.ensures c.args.b c.args.ready o r.led.led in
+    (w.so, w.chosen)
 
-pub bounds-starts-k : goal.bounds-starts-k
-bounds-starts-k c = omega (arith, c.loop-x.invariant.four, c.if-k-a.false)
+pub rounds-smaller : goal.rounds-smaller
+rounds-smaller c =
+    let z : c.loop-i.i ≡ c.args.b.len = omega (arith, c.loop-i-test.false) in
+    let planned = rw z at c.loop-i.invariant.planned in
+    let e : c.loop-k.k ≡ 16 * c.args.a.len = omega (arith, c.loop-k-test.false) in
+    let r = c.rounds.invariant in
+    let o = answers c.args.b c.args.a c.args.ready c.rounds.t c.loop-i.plans c.loop-k.starts c.requires.0 c.requires.1 r.few r.led.soon planned (rw e at c.loop-k.invariant.thru) in
+    (c.in-Continue.ensures c.args.b c.args.ready o r.led.led).1
 
-pub offset_bounds-plans-k : goal.offset_bounds-plans-k
-offset_bounds-plans-k c = record { fits = omega arith }
-
-pub bounds-plans-k : goal.bounds-plans-k
-bounds-plans-k c = omega arith
-
-pub offset_bounds-a-k : goal.offset_bounds-a-k
-offset_bounds-a-k c = record { fits = omega (arith, c.loop-x.invariant.four, c.if-k-a.false) }
-
-pub bounds-a-k : goal.bounds-a-k
-bounds-a-k c = omega (arith, c.loop-x.invariant.four, c.if-k-a.false)
-
-pub member_of-m-requires : goal.member_of-m-requires
-member_of-m-requires c =
-    let n = (let all : c.loop-x.planned ≡ c.args.b.len = omega (arith, c.loop-x.invariant.most, c.if-planned-b.false) in next-asked c.args.b c.requires.0 c.args.a c.args.ready c.requires.1 c.requires.2 c.loop-x.plans c.loop-x.asked c.loop-x.starts c.loop-x.x c.loop-x.g c.loop-x.planned c.loop-x.k c.loop-x.invariant (not-true _ c.loop-x-test.true) c.if-k-a.false all (sym c.is_asked.ensures ∙ c.if-is_asked.true)) in
-    let r = companions-range _ _ _ _ _ _ c.requires.0 c.requires.1 c.args.places c.requires.3 _ _ n in
-    (number-range _ _ _ _ _ _ c.requires.0 c.requires.1 c.args.places c.requires.3 _ _ n, r.0, r.1)
-
-pub offset_bounds-b-place : goal.offset_bounds-b-place
-offset_bounds-b-place c = record { fits = omega (arith, c.if-place-lt16.true) }
-
-pub bounds-b-place : goal.bounds-b-place
-bounds-b-place c = c.if-place-lt16.true
-
-pub start_on-s-requires : goal.start_on-s-requires
-start_on-s-requires c =
-    let n = (let all : c.loop-x.planned ≡ c.args.b.len = omega (arith, c.loop-x.invariant.most, c.if-planned-b.false) in next-asked c.args.b c.requires.0 c.args.a c.args.ready c.requires.1 c.requires.2 c.loop-x.plans c.loop-x.asked c.loop-x.starts c.loop-x.x c.loop-x.g c.loop-x.planned c.loop-x.k c.loop-x.invariant (not-true _ c.loop-x-test.true) c.if-k-a.false all (sym c.is_asked.ensures ∙ c.if-is_asked.true)) in
-    let e = c.member_of-m.ensures in
-    let h = c.if-place-lt16.true in
-    (diary-kept _ _ _ _ _ _ c.requires.0 c.requires.1 c.args.places c.requires.3 _ _ n _ e h, from-small _ _ _ _ _ _ c.requires.0 c.requires.1 c.args.places c.requires.3 _ _ n _ e h, span_small _ _ _ _ _ _ c.requires.0 c.requires.1 c.args.places c.requires.3 _ _ n, units-some _ _ _ _ _ _ c.requires.0 c.requires.1 c.args.places c.requires.3 _ _ n _ e h)
-
-pub answered-g-requires : goal.answered-g-requires
-answered-g-requires c = omega (
-  arith,
-  (let all : c.loop-x.planned ≡ c.args.b.len = omega (arith, c.loop-x.invariant.most, c.if-planned-b.false) in next-asked c.args.b c.requires.0 c.args.a c.args.ready c.requires.1 c.requires.2 c.loop-x.plans c.loop-x.asked c.loop-x.starts c.loop-x.x c.loop-x.g c.loop-x.planned c.loop-x.k c.loop-x.invariant (not-true _ c.loop-x-test.true) c.if-k-a.false all (sym c.is_asked.ensures ∙ c.if-is_asked.true)).go.few,
-  (resource-of c.args.b c.requires.0 (c.loop-x.k % 16) (let all : c.loop-x.planned ≡ c.args.b.len = omega (arith, c.loop-x.invariant.most, c.if-planned-b.false) in next-asked c.args.b c.requires.0 c.args.a c.args.ready c.requires.1 c.requires.2 c.loop-x.plans c.loop-x.asked c.loop-x.starts c.loop-x.x c.loop-x.g c.loop-x.planned c.loop-x.k c.loop-x.invariant (not-true _ c.loop-x-test.true) c.if-k-a.false all (sym c.is_asked.ensures ∙ c.if-is_asked.true)).here).few,
-)
-
-pub offset_bounds-asked-k-then-g-p : goal.offset_bounds-asked-k-then-g-p
-offset_bounds-asked-k-then-g-p c = record { fits = omega (arith, c.loop-x.invariant.four, c.if-k-a.false) }
-
-pub bounds-asked-k-then-g-p : goal.bounds-asked-k-then-g-p
-bounds-asked-k-then-g-p c = omega (arith, c.loop-x.invariant.four, c.if-k-a.false)
-
-pub offset_bounds-starts-k-then-g-p : goal.offset_bounds-starts-k-then-g-p
-offset_bounds-starts-k-then-g-p c = record { fits = omega (arith, c.loop-x.invariant.four, c.if-k-a.false) }
-
-pub bounds-starts-k-then-g-p : goal.bounds-starts-k-then-g-p
-bounds-starts-k-then-g-p c = omega (arith, c.loop-x.invariant.four, c.if-k-a.false)
-
--- the reply of the resource that was asked
-told-ended : (c : goal.Then-g-p) → Told c.args.b c.args.a c.args.ready (c.loop-x.k % 16) c.loop-x.x.instant (requirement_at c.args.a (c.loop-x.k / 16)) c.loop-x.g c.answered-g.result
-unfolding start_of
-told-ended c =
-    let n = (let all : c.loop-x.planned ≡ c.args.b.len = omega (arith, c.loop-x.invariant.most, c.if-planned-b.false) in next-asked c.args.b c.requires.0 c.args.a c.args.ready c.requires.1 c.requires.2 c.loop-x.plans c.loop-x.asked c.loop-x.starts c.loop-x.x c.loop-x.g c.loop-x.planned c.loop-x.k c.loop-x.invariant (not-true _ c.loop-x-test.true) c.if-k-a.false all (sym c.is_asked.ensures ∙ c.if-is_asked.true)) in
-    let e = c.member_of-m.ensures in
-    rw c.answered-g.ensures
-    (elim c.if-place-lt16.branch [ then-place-lt16 y ↦ told-asked _ _ _ _ _ _ c.requires.0 c.requires.1 c.args.places c.requires.3 _ _ n _ e y.if-place-lt16.true _ (ap start_of y.s-is ∙ y.start_on-s.ensures) | else-place-lt16 y ↦ rw y.s-is (told-nowhere _ _ _ _ _ _ c.requires.0 c.requires.1 c.args.places c.requires.3 _ _ n _ e y.if-place-lt16.false) ])
-
-pub loop-x-smaller-then-g-p : goal.loop-x-smaller-then-g-p
-unfolding start_of
-loop-x-smaller-then-g-p c =
-    let u = c.loop-x in
-    let n = (let all : c.loop-x.planned ≡ c.args.b.len = omega (arith, c.loop-x.invariant.most, c.if-planned-b.false) in next-asked c.args.b c.requires.0 c.args.a c.args.ready c.requires.1 c.requires.2 c.loop-x.plans c.loop-x.asked c.loop-x.starts c.loop-x.x c.loop-x.g c.loop-x.planned c.loop-x.k c.loop-x.invariant (not-true _ c.loop-x-test.true) c.if-k-a.false all (sym c.is_asked.ensures ∙ c.if-is_asked.true)) in
-    left-asked c.args.b c.requires.0 c.args.a c.args.ready c.requires.1 c.requires.2 u.plans u.asked u.starts u.x u.g u.planned u.k u.invariant (not-true _ c.loop-x-test.true) c.if-k-a.false n.here c.answered-g.result (told-ended c)
-
-pub loop-x-preserved-then-g-p : goal.loop-x-preserved-then-g-p
-unfolding start_of
-loop-x-preserved-then-g-p c =
-    let u = c.loop-x in
-    let n = (let all : c.loop-x.planned ≡ c.args.b.len = omega (arith, c.loop-x.invariant.most, c.if-planned-b.false) in next-asked c.args.b c.requires.0 c.args.a c.args.ready c.requires.1 c.requires.2 c.loop-x.plans c.loop-x.asked c.loop-x.starts c.loop-x.x c.loop-x.g c.loop-x.planned c.loop-x.k c.loop-x.invariant (not-true _ c.loop-x-test.true) c.if-k-a.false all (sym c.is_asked.ensures ∙ c.if-is_asked.true)) in
-    let e = count-is _ _ _ _ _ _ c.requires.0 c.requires.1 c.args.places c.requires.3 _ _ n in
-    state-found c.args.b c.requires.0 c.args.a c.args.ready c.requires.1 c.requires.2 u.plans u.asked u.starts u.x u.g u.planned u.k u.invariant (not-true _ c.loop-x-test.true) c.if-k-a.false n.here c.answered-g.result (told-ended c) (omega (arith, c.if-g-p.true))
-
--- the reply of the resource that was asked last
-told-on : (c : goal.Else-g-p) → Told c.args.b c.args.a c.args.ready (c.loop-x.k % 16) c.loop-x.x.instant (requirement_at c.args.a (c.loop-x.k / 16)) c.loop-x.g c.answered-g.result
-unfolding start_of
-told-on c =
-    let n = (let all : c.loop-x.planned ≡ c.args.b.len = omega (arith, c.loop-x.invariant.most, c.if-planned-b.false) in next-asked c.args.b c.requires.0 c.args.a c.args.ready c.requires.1 c.requires.2 c.loop-x.plans c.loop-x.asked c.loop-x.starts c.loop-x.x c.loop-x.g c.loop-x.planned c.loop-x.k c.loop-x.invariant (not-true _ c.loop-x-test.true) c.if-k-a.false all (sym c.is_asked.ensures ∙ c.if-is_asked.true)) in
-    let e = c.member_of-m.ensures in
-    rw c.answered-g.ensures
-    (elim c.if-place-lt16.branch [ then-place-lt16 y ↦ told-asked _ _ _ _ _ _ c.requires.0 c.requires.1 c.args.places c.requires.3 _ _ n _ e y.if-place-lt16.true _ (ap start_of y.s-is ∙ y.start_on-s.ensures) | else-place-lt16 y ↦ rw y.s-is (told-nowhere _ _ _ _ _ _ c.requires.0 c.requires.1 c.args.places c.requires.3 _ _ n _ e y.if-place-lt16.false) ])
-
-pub loop-x-smaller-else-g-p : goal.loop-x-smaller-else-g-p
-unfolding start_of
-loop-x-smaller-else-g-p c =
-    let u = c.loop-x in
-    let n = (let all : c.loop-x.planned ≡ c.args.b.len = omega (arith, c.loop-x.invariant.most, c.if-planned-b.false) in next-asked c.args.b c.requires.0 c.args.a c.args.ready c.requires.1 c.requires.2 c.loop-x.plans c.loop-x.asked c.loop-x.starts c.loop-x.x c.loop-x.g c.loop-x.planned c.loop-x.k c.loop-x.invariant (not-true _ c.loop-x-test.true) c.if-k-a.false all (sym c.is_asked.ensures ∙ c.if-is_asked.true)) in
-    left-asked c.args.b c.requires.0 c.args.a c.args.ready c.requires.1 c.requires.2 u.plans u.asked u.starts u.x u.g u.planned u.k u.invariant (not-true _ c.loop-x-test.true) c.if-k-a.false n.here c.answered-g.result (told-on c)
-
-pub loop-x-preserved-else-g-p : goal.loop-x-preserved-else-g-p
-unfolding start_of
-loop-x-preserved-else-g-p c =
-    let u = c.loop-x in
-    let n = (let all : c.loop-x.planned ≡ c.args.b.len = omega (arith, c.loop-x.invariant.most, c.if-planned-b.false) in next-asked c.args.b c.requires.0 c.args.a c.args.ready c.requires.1 c.requires.2 c.loop-x.plans c.loop-x.asked c.loop-x.starts c.loop-x.x c.loop-x.g c.loop-x.planned c.loop-x.k c.loop-x.invariant (not-true _ c.loop-x-test.true) c.if-k-a.false all (sym c.is_asked.ensures ∙ c.if-is_asked.true)) in
-    let e = count-is _ _ _ _ _ _ c.requires.0 c.requires.1 c.args.places c.requires.3 _ _ n in
-    state-on c.args.b c.requires.0 c.args.a c.args.ready c.requires.1 c.requires.2 u.plans u.asked u.starts u.x u.g u.planned u.k u.invariant (not-true _ c.loop-x-test.true) c.if-k-a.false n.here c.answered-g.result (told-on c) (omega (arith, c.if-g-p.false))
-
-pub overflow_add-k : goal.overflow_add-k
-overflow_add-k c = record { fits = omega (arith, c.loop-x.invariant.four, c.if-k-a.false) }
-
-pub loop-x-smaller : goal.loop-x-smaller
-loop-x-smaller c =
-    let u = c.loop-x in
-    rw c.unasked-g-else-is_asked.ensures
-    (left-known c.args.b c.requires.0 c.args.a c.args.ready c.requires.1 c.requires.2 u.plans u.asked u.starts u.x u.g u.planned u.k u.invariant (not-true _ c.loop-x-test.true) c.if-k-a.false)
-
-pub loop-x-preserved : goal.loop-x-preserved
-loop-x-preserved c =
-    let u = c.loop-x in
-    rw c.unasked-g-else-is_asked.ensures
-    (state-known c.args.b c.requires.0 c.args.a c.args.ready c.requires.1 c.requires.2 u.plans u.asked u.starts u.x u.g u.planned u.k u.invariant (not-true _ c.loop-x-test.true) c.if-k-a.false (sym c.is_asked.ensures ∙ c.if-is_asked.false))
-
-pub returns : goal.returns
-returns c =
-    let s = c.loop-x.invariant.settled in
-    (s.ends (not-false _ c.loop-x-test.false), s.soon, s.chosen)
+pub rounds-preserved : goal.rounds-preserved
+rounds-preserved c =
+    let z : c.loop-i.i ≡ c.args.b.len = omega (arith, c.loop-i-test.false) in
+    let planned = rw z at c.loop-i.invariant.planned in
+    let e : c.loop-k.k ≡ 16 * c.args.a.len = omega (arith, c.loop-k-test.false) in
+    let r = c.rounds.invariant in
+    let o = answers c.args.b c.args.a c.args.ready c.rounds.t c.loop-i.plans c.loop-k.starts c.requires.0 c.requires.1 r.few r.led.soon planned (rw e at c.loop-k.invariant.thru) in
+    record { few = r.few; four = r.four; led = (c.in-Continue.ensures c.args.b c.args.ready o r.led.led).0; kept = c.loop-k.invariant.kept }

@@ -1,11 +1,4 @@
-use borrow.Author.Rules.{rules}
-use mathlib.Core.Path.{◌≡◌, refl, sym, ap, ◌∙◌, subst}
-use mathlib.Core.Bool.{true, false}
-use mathlib.Core.List.{List, ◌∷◌}
-use mathlib.Core.Logic.{⊎_elim}
-use Prim.Native.Nat.{ℕ, ◌+◌, ◌-◌, ◌*◌, ◌≤◌, ◌<◌}
-use native.Mathlib.Omega.{arith}
-use lib.ListN.{length, get_or}
+use Rattle.std.proofs.Common.{◌≡◌, ℕ, ◌+◌, ◌≤◌, ◌<◌, true, false, List, ◌∷◌, length, refl, sym, ap, ◌∙◌, subst, arith}
 use Rattle.calendar.specs.declared.Calendar.{Calendar}
 use Rattle.calendar.specs.Search.{Found, nothing, at}
 use Rattle.timeline.specs.declared.ResourceTimeline.{ResourceTimeline}
@@ -16,14 +9,13 @@ use Rattle.timeline.specs.Ask.{unbroken}
 use Rattle.timeline_fit.specs.Steps.{start_of}
 use Rattle.scheduler.specs.Alone.{Share, earliest_of}
 use Rattle.scheduler.specs.Fitting.{fitting, end_of}
-use Rattle.scheduler.specs.Shares.{start_on, no_share, own_share}
-use Rattle.scheduler.specs.Instants.{above}
+use Rattle.scheduler.specs.Shares.{start_on, own_share}
 use Rattle.scheduler.specs.Laws.Owning.{suits_on, least_on, fitting-on}
-use Rattle.scheduler.specs.Laws.Asking.{Asked, asked-start, asked-on, asked-none, asked-listed, asked-less, listed-among, asked-all}
+use Rattle.scheduler.specs.Laws.Asking.{asked-start, asked-on, asked-none, asked-listed, asked-less, listed-among, asked-all}
 use Rattle.place_fit.specs.Closing.{with_end, closing, fit_of}
-use Rattle.place_fit.proofs.Reading.{Asks, those, instants, asks-own, asks-long, asks-sound, asks-kept, asks-some, Small, entry-small, read-share, own-share}
+use Rattle.place_fit.specs.Asks.{those}
+use Rattle.place_fit.proofs.Reading.{instants, asks-own, asks-long, asks-sound, asks-kept, asks-some}
 use Rattle.place_fit.proofs.fit_unbroken.Goals as goal
-use Rattle.place_fit.proofs.fit_unbroken.Goals.{then-i-gt0, else-i-gt0}
 
 start-read : (d : ResourceTimeline) (u t span : ℕ) (x : Share) → record { timeline = d; units = u } ≡ x → (f : Found) → earliest_fit d t span u ≡ f → start_on false span x t ≡ f
 unfolding start_on
@@ -43,94 +35,97 @@ pub loop-i-init : goal.loop-i-init
 loop-i-init c =
     let q = c.requires in
     let a = c.args in
-    let asks = asks-own a.b a.e.entries a.e.count a.places a.own _ c.own_timeline-first.ensures q.0 q.1 q.2 q.3 in
-    (asks, refl, asked-start _ _ _ _ q.4)
+    record { asks = asks-own a.b a.e.entries a.e.count a.places.now a.own _ c.own_timeline-first.ensures q.0 q.1 q.2 q.3; asked = asked-start _ _ _ _ q.4 }
 
-pub bounds-places-x : goal.bounds-places-x
-bounds-places-x c = (entry-small c.args.b c.args.e.entries c.args.e.count c.own_timeline-first.result c.args.places c.loop-i.invariant.0 c.loop-i.i c.if-i-gt0.true c.loop-i-test.true).0
-
-pub offset_bounds-b-places : goal.offset_bounds-b-places
-offset_bounds-b-places c = let s = (entry-small c.args.b c.args.e.entries c.args.e.count c.own_timeline-first.result c.args.places c.loop-i.invariant.0 c.loop-i.i c.if-i-gt0.true c.loop-i-test.true).1 in search rules
-
-pub bounds-b-places : goal.bounds-b-places
-bounds-b-places c = (entry-small c.args.b c.args.e.entries c.args.e.count c.own_timeline-first.result c.args.places c.loop-i.invariant.0 c.loop-i.i c.if-i-gt0.true c.loop-i-test.true).1
-
--- the diary and the units that are asked are those of the list
-joined : (c : goal.Joined-i-gt0) → record { timeline = c.if-i-gt0.d; units = c.if-i-gt0.units } ≡ get_or (those c.args.b c.args.e.entries c.args.e.count c.own_timeline-first.result) c.loop-i.i no_share
-joined c =
-    let a = c.args in
-    let k = c.loop-i in
-    let l = c.loop-i-test.true in
-    let first = c.own_timeline-first.result in
-    elim c.if-i-gt0.branch [ then-i-gt0 w ↦ rw (w.d-is, w.units-is) (read-share a.b a.e.entries a.e.count first a.places k.invariant.0 k.i w.if-i-gt0.true l) | else-i-gt0 w ↦ rw (w.d-is, w.units-is) (own-share a.b a.e.entries a.e.count first a.places k.invariant.0 k.i w.if-i-gt0.false) ]
+pub diary_at-units-requires : goal.diary_at-units-requires
+diary_at-units-requires c = (c.loop-i.invariant.asks, omega (arith, c.loop-i-test.true))
 
 pub earliest_fit-s-requires : goal.earliest_fit-s-requires
 earliest_fit-s-requires c =
     let a = c.args in
+    let b = a.b in
     let k = c.loop-i in
-    let l = c.loop-i-test.true in
+    let es = a.e.entries in
+    let n = a.e.count in
     let first = c.own_timeline-first.result in
-    let j = joined c in
-    record { t_value = (subst (λ (x : Share). timeline.valid x.timeline ≡ true) (sym j) (asks-kept a.b a.e.entries a.e.count first a.places k.invariant.0 k.i l), k.invariant.2.range, c.requires.5); le_units = subst (λ (x : Share). 1 ≤ x.units) (sym j) (asks-some a.b a.e.entries a.e.count first a.places k.invariant.0 k.i l) }
+    let places = a.places.now in
+    let v = k.invariant in
+    let l : k.i < n + 1 = omega (arith, c.loop-i-test.true) in
+    let j = sym c.diary_at-units.ensures in record {
+      t_value = (subst (λ (x : Share). timeline.valid x.timeline ≡ true) j (asks-kept b es n first places v.asks k.i l), v.asked.range, c.requires.5);
+      le_units = subst (λ (x : Share). 1 ≤ x.units) j (asks-some b es n first places v.asks k.i l);
+    }
 
 pub loop-i-smaller : goal.loop-i-smaller
 unfolding start_of
 loop-i-smaller c =
     let a = c.args in
+    let b = a.b in
     let k = c.loop-i in
-    let l = c.loop-i-test.true in
+    let es = a.e.entries in
+    let n = a.e.count in
     let first = c.own_timeline-first.result in
-    let j = joined c.before.before.before in
+    let places = a.places.now in
+    let v = k.invariant in
+    let l : k.i < n + 1 = omega (arith, c.loop-i-test.true) in
+    let xs = those b es n first in
+    let m : k.i < length xs = omega (arith, l, asks-long b es n first places v.asks) in
+    let w = asks-sound b es n first places v.asks in
     let s = c.in-At in
-    let xs = those a.b a.e.entries a.e.count first in
-    let m : k.i < length xs = omega (arith, l, asks-long a.b a.e.entries a.e.count first a.places k.invariant.0) in
-    let e = start-read _ _ k.t a.span _ j _ (sym c.earliest_fit-s.ensures ∙ ap start_of s.is) in
-    let w = asks-sound a.b a.e.entries a.e.count first a.places k.invariant.0 in
-    let x = asked-listed false a.span xs a.from k.t k.i w k.invariant.2 m s.x e in
-    rw c.next_asked-i.ensures (asked-less (instants a.b a.e.entries a.e.count first) (a.e.count + 1) k.t k.t k.i s.x (omega (arith, k.invariant.0.entries.few)) l (omega arith) x.0 (listed-among xs k.i k.t s.x x.1))
+    let e = start-read _ _ k.t a.span _ c.diary_at-units.ensures _ (sym c.earliest_fit-s.ensures ∙ ap start_of s.is) in
+    let x = asked-listed false a.span xs a.from k.t k.i w v.asked m s.x e in
+    rw c.next_asked-i.ensures (asked-less (instants b es n first) (n + 1) k.t k.t k.i s.x (omega (arith, v.asks.entries.few)) l (omega arith) x.0 (listed-among xs k.i k.t s.x x.1))
 
 pub loop-i-preserved : goal.loop-i-preserved
 unfolding start_of
 loop-i-preserved c =
     let a = c.args in
+    let b = a.b in
     let k = c.loop-i in
-    let l = c.loop-i-test.true in
+    let es = a.e.entries in
+    let n = a.e.count in
     let first = c.own_timeline-first.result in
-    let j = joined c.before.before.before in
+    let places = a.places.now in
+    let v = k.invariant in
+    let l : k.i < n + 1 = omega (arith, c.loop-i-test.true) in
+    let xs = those b es n first in
+    let m : k.i < length xs = omega (arith, l, asks-long b es n first places v.asks) in
+    let w = asks-sound b es n first places v.asks in
     let s = c.in-At in
-    let xs = those a.b a.e.entries a.e.count first in
-    let m : k.i < length xs = omega (arith, l, asks-long a.b a.e.entries a.e.count first a.places k.invariant.0) in
-    let e = start-read _ _ k.t a.span _ j _ (sym c.earliest_fit-s.ensures ∙ ap start_of s.is) in
-    let w = asks-sound a.b a.e.entries a.e.count first a.places k.invariant.0 in
-    (k.invariant.0, refl, rw c.next_asked-i.ensures (asked-on false a.span xs a.from k.t k.i w k.invariant.2 m s.x e))
+    let e = start-read _ _ k.t a.span _ c.diary_at-units.ensures _ (sym c.earliest_fit-s.ensures ∙ ap start_of s.is) in
+    record { asks = v.asks; asked = rw c.next_asked-i.ensures (asked-on false a.span xs a.from k.t k.i w v.asked m s.x e) }
 
 pub returns-in-Nothing : goal.returns-in-Nothing
 unfolding start_of fit_of unbroken
 returns-in-Nothing c =
     let a = c.args in
+    let b = a.b in
     let k = c.loop-i in
-    let l = c.loop-i-test.true in
+    let es = a.e.entries in
+    let n = a.e.count in
     let first = c.own_timeline-first.result in
-    let j = joined c.before.before in
-    let xs = those a.b a.e.entries a.e.count first in
-    let m : k.i < length xs = omega (arith, l, asks-long a.b a.e.entries a.e.count first a.places k.invariant.0) in
-    let e = start-read _ _ k.t a.span _ j _ (sym c.earliest_fit-s.ensures ∙ ap start_of c.in-Nothing.is) in
-    let w = asks-sound a.b a.e.entries a.e.count first a.places k.invariant.0 in
-    answered a.span a.from _ a.own first c.own_timeline-first.ensures nothing (asked-none false a.span xs a.from k.t k.i w k.invariant.2 m e)
+    let places = a.places.now in
+    let v = k.invariant in
+    let l : k.i < n + 1 = omega (arith, c.loop-i-test.true) in
+    let xs = those b es n first in
+    let m : k.i < length xs = omega (arith, l, asks-long b es n first places v.asks) in
+    let w = asks-sound b es n first places v.asks in
+    let e = start-read _ _ k.t a.span _ c.diary_at-units.ensures _ (sym c.earliest_fit-s.ensures ∙ ap start_of c.in-Nothing.is) in
+    answered a.span a.from _ a.own first c.own_timeline-first.ensures nothing (asked-none false a.span xs a.from k.t k.i w v.asked m e)
 
 pub overflow_add-result : goal.overflow_add-result
-overflow_add-result c =
-    let a = c.args in
-    let k = c.loop-i in
-    let l = c.loop-i-test.false in
-    let first = c.own_timeline-first.result in
-    omega (arith, k.invariant.2.range, c.requires.5)
+overflow_add-result c = record { fits = omega (arith, c.loop-i.invariant.asked.range, c.requires.5) }
 
 pub returns : goal.returns
 unfolding fit_of unbroken
 returns c =
     let a = c.args in
+    let b = a.b in
     let k = c.loop-i in
-    let l = c.loop-i-test.false in
+    let es = a.e.entries in
+    let n = a.e.count in
     let first = c.own_timeline-first.result in
-    answered a.span a.from _ a.own first c.own_timeline-first.ensures (at k.t) (asked-all false a.span (those a.b a.e.entries a.e.count first) a.from k.t k.i (asks-sound a.b a.e.entries a.e.count first a.places k.invariant.0) k.invariant.2 (omega (arith, l, asks-long a.b a.e.entries a.e.count first a.places k.invariant.0)))
+    let places = a.places.now in
+    let v = k.invariant in
+    let m : length (those b es n first) ≤ k.i = omega (arith, c.loop-i-test.false, asks-long b es n first places v.asks) in
+    answered a.span a.from _ a.own first c.own_timeline-first.ensures (at k.t) (asked-all false a.span (those b es n first) a.from k.t k.i (asks-sound b es n first places v.asks) v.asked m)

@@ -1,5 +1,4 @@
 -- `place_plans::plan_of` meets its contract: the durations, the setup and the arrival of one resource alone.
-use borrow.Author.Rules.{rules}
 use Rattle.std.specs.Prelude.{◌≡◌}
 use mathlib.Core.Path.{refl}
 use native.Mathlib.Omega.{arith}
@@ -43,4 +42,4 @@ setup_ms-requires c =
 
 pub returns : goal.returns
 unfolding span_of duration_alone plan_with
-returns c = rw (c.setup_ms.ensures, c.transport_between.ensures, c.setup_ms-setup.ensures, c.duration_on-d.ensures) refl
+returns c = rw (c.then_some.ensures, c.setup_ms.ensures, c.transport_between.ensures, c.setup_ms-setup.ensures, c.duration_on-d.ensures) refl

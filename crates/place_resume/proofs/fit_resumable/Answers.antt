@@ -1,183 +1,205 @@
-use borrow.Author.Rules.{rules}
-use borrow.Author.Tests.{not-true, not-false}
-use mathlib.Core.Path.{◌≡◌, refl, sym, ap, ◌∙◌, subst}
-use mathlib.Core.Bool.{Bool, true, false}
-use mathlib.Core.List.{List, ◌∷◌}
-use mathlib.Core.Logic.{inl, inr, ⊎_elim}
-use Prim.Native.Nat.{ℕ, ◌+◌, ◌≤◌, ◌<◌}
-use native.Mathlib.Omega.{arith}
-use lib.ListN.{length, get_or}
+use Rattle.std.proofs.Common.{◌≡◌, ℕ, ◌+◌, ◌≤◌, true, List, ◌∷◌, refl, sym, ap, ◌∙◌, subst, arith}
 use Rattle.calendar.specs.declared.Calendar.{Calendar}
 use Rattle.calendar.specs.Search.{nothing}
+use Rattle.calendar_work.specs.Layout.{found_of}
 use Rattle.timeline.specs.declared.ResourceTimeline.{ResourceTimeline}
 use Rattle.timeline.specs.Ask as asking
 use Rattle.timeline.specs.Diary.{diary}
 use Rattle.timeline.specs.Valid.{valid}
 use Rattle.scheduler.specs.Alone.{Share}
 use Rattle.scheduler.specs.Fitting.{end_of}
-use Rattle.scheduler.specs.Shares.{no_share, own_share}
+use Rattle.scheduler.specs.Shares.{own_share}
 use Rattle.scheduler.specs.Laws.Owning.{least_on, fitting-on}
 use Rattle.place_fit.specs.Closing.{with_end, closing, fit_of}
-use Rattle.place_fit.proofs.Reading.{Asks, those, instants, asks-own, asks-long, asks-sound, asks-kept, Small, entry-small, read-share, own-share}
-use Rattle.place_resume.specs.declared.Trial.{Trial}
+use Rattle.timeline_candidates.specs.Steps.{Event}
+use Rattle.place_fit.specs.Asks.{those, share}
+use Rattle.place_fit.proofs.Reading.{instants, asks-own, asks-long, asks-sound, asks-kept}
+use Rattle.place_resume.specs.Trials.{end_found}
 use Rattle.place_resume.proofs.Resuming.{Least}
-use Rattle.place_resume.proofs.Walking.{State, state-start, state-cell, state-asked, state-found, state-over, state-begun, Onward, onward-laid, onward-next, gathers-ruled, left, left-asked, left_laid, left-on, event-stop}
+use Rattle.place_resume.proofs.Walking.{gathers-next, gathers-ruled, walks-begin, walks-found, walks-on, walks-over, tried-none, tried-next, remaining-falls, event-stop}
 use Rattle.place_resume.proofs.fit_resumable.Goals as goal
-use Rattle.place_resume.proofs.fit_resumable.Goals.{then-i-gt0, else-i-gt0, then-t, else-t, then-not-t, else-not-t}
+use Rattle.place_resume.proofs.fit_resumable.Goals.{in-At, in-Nothing}
 
 module _ (work from : ℕ) (xs : List Share) (own : Calendar) (first : ResourceTimeline) (e : first ≡ (own_share own).timeline) where
-  answered : (x end : ℕ) → Least (record { timeline = first; units = 1 } ∷ xs) work from x end → asking.fit x end ≡ closing true xs own work from
+  answered : (x end : ℕ) → Least (share first 1 ∷ xs) work from x end → asking.fit x end ≡ closing true xs own work from
   unfolding closing with_end end_of asking.ended diary
   answered x end l =
       let k : Least (own_share own ∷ xs) work from x end = rw e at l in
       sym (ap (with_end true xs own work) (fitting-on true xs own work from ∙ k.start) ∙ ap (asking.ended x) k.end)
 
-  answered-none : least_on true (record { timeline = first; units = 1 } ∷ xs) work from ≡ nothing → asking.none ≡ closing true xs own work from
+  answered-none : least_on true (share first 1 ∷ xs) work from ≡ nothing → asking.none ≡ closing true xs own work from
   unfolding closing with_end
   answered-none l = sym (ap (with_end true xs own work) (fitting-on true xs own work from ∙ rw e at l))
 
-pub loop-t-init : goal.loop-t-init
-loop-t-init c =
+pub loop-i-init : goal.loop-i-init
+loop-i-init c =
     let q = c.requires in
     let a = c.args in
-    let u = c.untried-t.ensures in
-    let asks = asks-own a.b a.e.entries a.e.count a.places a.own _ c.own_timeline-first.ensures q.0 q.1 q.2 q.3 in
-    (asks, state-start _ _ _ _ _ _ _ _ _ _ _ _ _ refl refl u.0 u.1 u.2 u.3 (omega (arith, q.4)))
+    record { asks = asks-own a.b a.e.entries a.e.count a.places.now a.own _ c.own_timeline-first.ensures q.0 q.1 q.2 q.3; gathers = record { long = refl; cells = λ k h. absurd (omega arith) } }
 
-pub bounds-places-x : goal.bounds-places-x
-bounds-places-x c = (entry-small c.args.b c.args.e.entries c.args.e.count c.own_timeline-first.result c.args.places c.loop-t.invariant.0 c.loop-t.i c.if-i-gt0.true c.if-i-n.true).0
-
-pub offset_bounds-b-places : goal.offset_bounds-b-places
-offset_bounds-b-places c = let s = (entry-small c.args.b c.args.e.entries c.args.e.count c.own_timeline-first.result c.args.places c.loop-t.invariant.0 c.loop-t.i c.if-i-gt0.true c.if-i-n.true).1 in search rules
-
-pub bounds-b-places : goal.bounds-b-places
-bounds-b-places c = (entry-small c.args.b c.args.e.entries c.args.e.count c.own_timeline-first.result c.args.places c.loop-t.invariant.0 c.loop-t.i c.if-i-gt0.true c.if-i-n.true).1
-
-pub asked-t-requires : goal.asked-t-requires
-asked-t-requires c =
+pub loop-i-preserved : goal.loop-i-preserved
+loop-i-preserved c =
     let a = c.args in
-    let k = c.loop-t in
+    let b = a.b in
+    let es = a.e.entries in
+    let n = a.e.count in
     let first = c.own_timeline-first.result in
-    let l = c.if-i-n.true in
-    let j = (let it : record { timeline = c.if-i-gt0.d; units = c.if-i-gt0.units } ≡ get_or (those c.args.b c.args.e.entries c.args.e.count c.own_timeline-first.result) c.loop-t.i no_share = let a = c.args in
-    let k = c.loop-t in
-    let first = c.own_timeline-first.result in
-    let l = c.if-i-n.true in
-    elim c.if-i-gt0.branch [ then-i-gt0 w ↦ rw (w.d-is, w.units-is) (read-share a.b a.e.entries a.e.count first a.places k.invariant.0 k.i w.if-i-gt0.true l) | else-i-gt0 w ↦ rw (w.d-is, w.units-is) (own-share a.b a.e.entries a.e.count first a.places k.invariant.0 k.i w.if-i-gt0.false) ] in it) in
-    let h = c.loop-t-test.true in
-    let t = (k.invariant.1.walks c.if-t.true).tried h in
-    (subst (λ (x : Share). valid x.timeline ≡ true) (sym j) (asks-kept a.b a.e.entries a.e.count first a.places k.invariant.0 k.i l), t.later, t.most)
+    let places = a.places.now in
+    let xs = those b es n first in
+    let stops = instants b es n first in
+    let v = c.loop-i.invariant in
+    record { asks = v.asks; gathers = gathers-next xs (n + 1) a.work a.from stops c.loop-i.cs c.loop-i.i v.gathers (omega (arith, c.loop-i-test.true, v.asks.entries.few)) _ (let e = c.diary_at.ensures in ap (λ (s : Share). s.timeline.calendar) e) }
 
--- the diary and the units that are asked are those of the list
-joined : (c : goal.Joined-t) → record { timeline = c.if-i-gt0.d; units = c.if-i-gt0.units } ≡ get_or (those c.args.b c.args.e.entries c.args.e.count c.own_timeline-first.result) c.loop-t.i no_share
-joined c =
+pub joint_time-joint-requires : goal.joint_time-joint-requires
+joint_time-joint-requires c =
     let a = c.args in
-    let k = c.loop-t in
+    let b = a.b in
+    let es = a.e.entries in
+    let n = a.e.count in
     let first = c.own_timeline-first.result in
-    let l = c.if-i-n.true in
-    elim c.if-i-gt0.branch [ then-i-gt0 w ↦ rw (w.d-is, w.units-is) (read-share a.b a.e.entries a.e.count first a.places k.invariant.0 k.i w.if-i-gt0.true l) | else-i-gt0 w ↦ rw (w.d-is, w.units-is) (own-share a.b a.e.entries a.e.count first a.places k.invariant.0 k.i w.if-i-gt0.false) ]
+    let places = a.places.now in
+    let xs = those b es n first in
+    let stops = instants b es n first in
+    let v = c.loop-i.invariant in
+    let z : c.loop-i.i ≡ n + 1 = omega (arith, c.loop-i-test.false) in
+    (omega (arith, v.asks.entries.few), omega (arith, c.requires.4), gathers-ruled xs (n + 1) a.work a.from stops (asks-sound b es n first places v.asks) (asks-long b es n first places v.asks) _ (rw z at v.gathers))
 
-pub loop-t-smaller-then-i-n : goal.loop-t-smaller-then-i-n
-loop-t-smaller-then-i-n c =
+pub loop-at-init : goal.loop-at-init
+loop-at-init c =
     let a = c.args in
-    let k = c.loop-t in
+    let b = a.b in
+    let es = a.e.entries in
+    let n = a.e.count in
     let first = c.own_timeline-first.result in
-    let l = c.if-i-n.true in
-    let j = joined c in
-    let h = c.loop-t-test.true in
-    let s = k.invariant.1 in
-    elim c.if-t.branch [ then-t w ↦ left-asked (instants a.b a.e.entries a.e.count first) c.if-t.t.at k.t.at c.if-t.t.laid k.t.laid (a.e.count + 1) k.i (ap (λ (x : Trial). x.at) w.t-is ∙ w.asked-t.ensures.at_value.0) (ap (λ (x : Trial). x.laid) w.t-is ∙ w.asked-t.ensures.at_value.2) l | else-t w ↦ left-asked (instants a.b a.e.entries a.e.count first) c.if-t.t.at k.t.at c.if-t.t.laid k.t.laid (a.e.count + 1) k.i (ap (λ (x : Trial). x.at) w.t-is) (ap (λ (x : Trial). x.laid) w.t-is) l ]
+    let places = a.places.now in
+    let xs = those b es n first in
+    let stops = instants b es n first in
+    let v = c.loop-i.invariant in
+    let z : c.loop-i.i ≡ n + 1 = omega (arith, c.loop-i-test.false) in
+    let y = c.joint_time-joint.ensures in
+    record { asks = v.asks; walks = walks-begin xs (n + 1) a.work a.from stops (asks-sound b es n first places v.asks) (asks-long b es n first places v.asks) c.loop-i.cs _ _ (rw z at v.gathers) (omega (arith, v.asks.entries.few)) (omega (arith, c.requires.4)) y.0 y.1 }
 
-pub loop-t-preserved-then-i-n : goal.loop-t-preserved-then-i-n
-loop-t-preserved-then-i-n c =
+pub loop-i-2-init : goal.loop-i-2-init
+unfolding end_found found_of
+loop-i-2-init c =
     let a = c.args in
-    let k = c.loop-t in
+    let b = a.b in
+    let es = a.e.entries in
+    let n = a.e.count in
     let first = c.own_timeline-first.result in
-    let l = c.if-i-n.true in
-    let j = joined c in
-    let h = c.loop-t-test.true in
-    let s = k.invariant.1 in (
-      k.invariant.0,
-      elim c.if-t.branch [
-        | then-t w ↦ (let r = w.asked-t.result in
-            let u = w.asked-t.ensures in
-            rw (w.cs-is, w.t-is) (state-asked (those a.b a.e.entries a.e.count first) (a.e.count + 1) a.work a.from (instants a.b a.e.entries a.e.count first) k.cs k.edges k.len k.t.at k.t.end k.t.free k.t.next k.t.laid k.i s l (asks-sound a.b a.e.entries a.e.count first a.places k.invariant.0) (asks-long a.b a.e.entries a.e.count first a.places k.invariant.0) w.if-t.true h r.at r.end r.free r.next r.laid _ _ (ap (λ (x : Share). x.timeline) j) (ap (λ (x : Share). x.units) j) u.at_value.0 u.at_value.1 u.at_value.2 u.at_value.3 u.at_lt_next.0 u.at_lt_next.1 (⊎_elim inl (λ z. inr (event-stop (those a.b a.e.entries a.e.count first) k.i r.next _ (ap (λ (x : Share). x.timeline) j) (omega (arith, u.at_lt_next.0)) z)) u.at_lt_next.3) u.at_lt_next.2))
-        | else-t w ↦ rw (w.cs-is, w.t-is) (state-cell (those a.b a.e.entries a.e.count first) (a.e.count + 1) a.work a.from (instants a.b a.e.entries a.e.count first) k.cs k.edges k.len k.t.at k.t.end k.t.free k.t.next k.t.laid k.i s l w.if-t.false (omega (arith, k.invariant.0.entries.few)) _ (ap (λ (x : Share). x.timeline.calendar) j))
-      ],
-    )
+    let places = a.places.now in
+    let xs = those b es n first in
+    let stops = instants b es n first in
+    let v = c.loop-at.invariant in
+    let e : end_found c.match-work_end.end ≡ found_of c.work_end.result =
+    elim c.match-work_end.branch [ in-At w ↦ rw (w.end-is, w.in-At.is) refl | in-Nothing w ↦ rw (w.end-is, w.in-Nothing.is) refl ] in
+    record { asks = v.asks; tried = tried-none xs (n + 1) a.work a.from stops (asks-sound b es n first places v.asks) (asks-long b es n first places v.asks) _ _ _ v.walks c.loop-at-test.true _ (e ∙ c.work_end.ensures) }
 
-pub returns-then-t-2 : goal.returns-then-t-2
+pub free_too-end-requires : goal.free_too-end-requires
+free_too-end-requires c =
+    let a = c.args in
+    let b = a.b in
+    let es = a.e.entries in
+    let n = a.e.count in
+    let first = c.own_timeline-first.result in
+    let places = a.places.now in
+    let xs = those b es n first in
+    let stops = instants b es n first in
+    let v = c.loop-i-2.invariant in
+    let kept = subst (λ (x : Share). valid x.timeline ≡ true) (sym c.diary_at-units.ensures) (asks-kept b es n first places v.asks c.loop-i-2.i c.loop-i-2-test.true) in
+    kept
+
+pub next_start_candidate-requires : goal.next_start_candidate-requires
+next_start_candidate-requires c =
+    let a = c.args in
+    let b = a.b in
+    let es = a.e.entries in
+    let n = a.e.count in
+    let first = c.own_timeline-first.result in
+    let places = a.places.now in
+    let xs = those b es n first in
+    let stops = instants b es n first in
+    let v = c.loop-i-2.invariant in
+    let kept = subst (λ (x : Share). valid x.timeline ≡ true) (sym c.diary_at-units.ensures) (asks-kept b es n first places v.asks c.loop-i-2.i c.loop-i-2-test.true) in
+    (kept, c.loop-at-test.true)
+
+pub loop-i-2-preserved : goal.loop-i-2-preserved
+loop-i-2-preserved c =
+    let a = c.args in
+    let b = a.b in
+    let es = a.e.entries in
+    let n = a.e.count in
+    let first = c.own_timeline-first.result in
+    let places = a.places.now in
+    let xs = those b es n first in
+    let stops = instants b es n first in
+    let v = c.loop-i-2.invariant in
+    let i = c.loop-i-2.i in
+    let d = c.diary_at-units.result.0.now in
+    let e = c.diary_at-units.ensures in
+    let on = λ (y : ℕ) (l : 1 ≤ y) (o : Event d y). event-stop xs i y d (ap (λ (s : Share). s.timeline) e) l o in
+    rw (c.free_too-end.ensures, c.min-next.ensures)
+    (record { asks = v.asks; tried = tried-next xs (n + 1) a.work a.from stops (asks-sound b es n first places v.asks) (asks-long b es n first places v.asks) _ _ _ c.loop-at.invariant.walks c.loop-at-test.true c.loop-i-2.end c.loop-i-2.next i c.loop-i-2-test.true v.tried d c.diary_at-units.result.1 _ e on c.next_start_candidate.ensures })
+
+pub returns-in-Some : goal.returns-in-Some
 unfolding fit_of
-returns-then-t-2 c =
+returns-in-Some c =
     let a = c.args in
-    let k = c.loop-t in
+    let b = a.b in
+    let es = a.e.entries in
+    let n = a.e.count in
     let first = c.own_timeline-first.result in
-    let l = c.if-i-n.false in
-    let h = c.loop-t-test.true in
-    answered a.work a.from _ a.own first c.own_timeline-first.ensures _ _ (state-found (those a.b a.e.entries a.e.count first) (a.e.count + 1) a.work a.from (instants a.b a.e.entries a.e.count first) (asks-sound a.b a.e.entries a.e.count first a.places k.invariant.0) (asks-long a.b a.e.entries a.e.count first a.places k.invariant.0) k.cs k.edges k.len k.t.at k.t.end k.t.free k.t.next k.t.laid k.i k.invariant.1 l c.if-t-2.true h)
+    let places = a.places.now in
+    let xs = those b es n first in
+    let stops = instants b es n first in
+    let v = c.loop-i-2.invariant in
+    let w = c.loop-at.invariant.walks in
+    let z : c.loop-i-2.i ≡ n + 1 = omega (arith, c.loop-i-2-test.false) in
+    let t = rw z at v.tried in
+    answered a.work a.from _ a.own first c.own_timeline-first.ensures _ _ (walks-found xs (n + 1) a.work a.from stops (asks-sound b es n first places v.asks) (asks-long b es n first places v.asks) _ _ _ w c.loop-at-test.true _ _ t _ c.in-Some.is)
 
-pub joint_time-j-requires : goal.joint_time-j-requires
-joint_time-j-requires c =
+pub loop-at-smaller : goal.loop-at-smaller
+loop-at-smaller c =
     let a = c.args in
-    let k = c.loop-t in
+    let b = a.b in
+    let es = a.e.entries in
+    let n = a.e.count in
     let first = c.own_timeline-first.result in
-    let q = c.requires in
-    let l = c.if-i-n.false in
-    (omega (arith, q.3.few), omega (arith, q.4), gathers-ruled (those a.b a.e.entries a.e.count first) (a.e.count + 1) a.work a.from (instants a.b a.e.entries a.e.count first) (asks-sound a.b a.e.entries a.e.count first a.places k.invariant.0) (asks-long a.b a.e.entries a.e.count first a.places k.invariant.0) k.cs k.t.at k.t.free k.t.next k.i (k.invariant.1.gathers (not-true _ c.if-not-t.true)) l)
+    let places = a.places.now in
+    let xs = those b es n first in
+    let stops = instants b es n first in
+    let v = c.loop-i-2.invariant in
+    let w = c.loop-at.invariant.walks in
+    let z : c.loop-i-2.i ≡ n + 1 = omega (arith, c.loop-i-2-test.false) in
+    let t = rw z at v.tried in
+    remaining-falls stops c.loop-at.at c.loop-i-2.next t.later t.most t.listed
 
--- what is laid out and sought goes on from the next instant, and fewer instants are left
-laid_out : (c : goal.After-edges-in-loop-t-1) → Onward (those c.args.b c.args.e.entries c.args.e.count c.own_timeline-first.result) (c.args.e.count + 1) c.args.work c.args.from (instants c.args.b c.args.e.entries c.args.e.count c.own_timeline-first.result) c.if-not-t.edges c.if-not-t.len c.loop-t.t.next × ((x : ℕ) (q : Bool) → x ≡ c.loop-t.t.next → q ≡ true → left (instants c.args.b c.args.e.entries c.args.e.count c.own_timeline-first.result) x q (c.args.e.count + 1) 0 < left (instants c.args.b c.args.e.entries c.args.e.count c.own_timeline-first.result) c.loop-t.t.at c.loop-t.t.laid (c.args.e.count + 1) c.loop-t.i)
-laid_out c =
+pub loop-at-preserved : goal.loop-at-preserved
+loop-at-preserved c =
     let a = c.args in
-    let k = c.loop-t in
+    let b = a.b in
+    let es = a.e.entries in
+    let n = a.e.count in
     let first = c.own_timeline-first.result in
-    let q = c.requires in
-    let l = c.if-i-n.false in
-    let h = c.loop-t-test.true in
-    let f = c.if-t-2.false in
-    let s = k.invariant.1 in
-    let few : a.e.count + 1 ≤ 25 = omega (arith, q.3.few) in
-    elim c.if-not-t.branch [
-      | then-not-t w ↦ (let e : k.t.laid ≡ false = not-true _ w.if-not-t.true in
-          let long : length w.joint_time-j.result.edges ≡ 3201 = search rules in (
-            rw (w.edges-is, w.len-is) (onward-laid (those a.b a.e.entries a.e.count first) (a.e.count + 1) a.work a.from (instants a.b a.e.entries a.e.count first) (asks-sound a.b a.e.entries a.e.count first a.places k.invariant.0) (asks-long a.b a.e.entries a.e.count first a.places k.invariant.0) k.cs k.edges k.len k.t.at k.t.end k.t.free k.t.next k.t.laid k.i s l e q.4 few w.joint_time-j.result.edges w.joint_time-j.result.len long w.joint_time-j.ensures.0 w.joint_time-j.ensures.1),
-            λ x p g z. left_laid (instants a.b a.e.entries a.e.count first) x k.t.at p k.t.laid (a.e.count + 1) k.i (g ∙ (s.gathers e).begin ∙ sym (s.gathers e).start) z e few,
-          ))
-      | else-not-t w ↦ (let e : k.t.laid ≡ true = not-false _ w.if-not-t.false in
-          let t = (s.walks e).tried h in (
-            rw (w.edges-is, w.len-is) (onward-next (those a.b a.e.entries a.e.count first) (a.e.count + 1) a.work a.from (instants a.b a.e.entries a.e.count first) (asks-sound a.b a.e.entries a.e.count first a.places k.invariant.0) (asks-long a.b a.e.entries a.e.count first a.places k.invariant.0) k.cs k.edges k.len k.t.at k.t.end k.t.free k.t.next k.t.laid k.i s l e h f),
-            λ x p g z. left-on (instants a.b a.e.entries a.e.count first) x k.t.at p k.t.laid (a.e.count + 1) k.i (omega (arith, g, t.later)) (omega (arith, g, t.most)) (rw g t.listed) z e few,
-          ))
-    ]
-
-pub slice_bounds-begun-end : goal.slice_bounds-begun-end
-slice_bounds-begun-end c = sym (laid_out c).0.wide
-
-pub begun-t-requires : goal.begun-t-requires
-begun-t-requires c =
-    let o = (laid_out c).0 in
-    (o.short, omega (arith, o.short, o.wide), c.requires.5, o.layout.edges)
-
-pub loop-t-smaller : goal.loop-t-smaller
-loop-t-smaller c =
-    let u = c.begun-t.ensures in
-    (laid_out c.before).1 _ _ u.0 u.2
-
-pub loop-t-preserved : goal.loop-t-preserved
-loop-t-preserved c =
-    let a = c.args in
-    let k = c.loop-t in
-    let first = c.own_timeline-first.result in
-    let u = c.begun-t.ensures in
-    let r = c.begun-t.result in (
-      k.invariant.0,
-      state-begun (those a.b a.e.entries a.e.count first) (a.e.count + 1) a.work a.from (instants a.b a.e.entries a.e.count first) (asks-sound a.b a.e.entries a.e.count first a.places k.invariant.0) (asks-long a.b a.e.entries a.e.count first a.places k.invariant.0) k.cs c.if-not-t.edges c.if-not-t.len k.t.next k.invariant.1.cells (laid_out c.before).0 r.at r.end r.free r.next r.laid u.0 u.1 u.2 u.3,
-    )
+    let places = a.places.now in
+    let xs = those b es n first in
+    let stops = instants b es n first in
+    let v = c.loop-i-2.invariant in
+    let w = c.loop-at.invariant.walks in
+    let z : c.loop-i-2.i ≡ n + 1 = omega (arith, c.loop-i-2-test.false) in
+    let t = rw z at v.tried in
+    record { asks = v.asks; walks = walks-on xs (n + 1) a.work a.from stops (asks-sound b es n first places v.asks) (asks-long b es n first places v.asks) _ _ _ w c.loop-at-test.true _ _ t c.in_default.is }
 
 pub returns : goal.returns
 unfolding fit_of
 returns c =
     let a = c.args in
-    let k = c.loop-t in
+    let b = a.b in
+    let es = a.e.entries in
+    let n = a.e.count in
     let first = c.own_timeline-first.result in
-    answered-none a.work a.from _ a.own first c.own_timeline-first.ensures (state-over (those a.b a.e.entries a.e.count first) (a.e.count + 1) a.work a.from (instants a.b a.e.entries a.e.count first) (asks-sound a.b a.e.entries a.e.count first a.places k.invariant.0) (asks-long a.b a.e.entries a.e.count first a.places k.invariant.0) k.cs k.edges k.len k.t.at k.t.end k.t.free k.t.next k.t.laid k.i k.invariant.1 c.requires.4 c.loop-t-test.false)
+    let places = a.places.now in
+    let xs = those b es n first in
+    let stops = instants b es n first in
+    let v = c.loop-at.invariant in
+    answered-none a.work a.from _ a.own first c.own_timeline-first.ensures (walks-over xs (n + 1) a.work a.from stops (asks-sound b es n first places v.asks) (asks-long b es n first places v.asks) _ _ _ v.walks c.requires.4 c.loop-at-test.false)

@@ -1,5 +1,5 @@
 -- The entries of a commitment booked one after another: what a step leaves as it is, and that it keeps the rules.
-use Rattle.std.specs.Prelude.{◌≡◌, Bool, ◌&&◌, ◌||◌, ℕ, ◌+◌, ◌≤◌, ◌<◌, length, leb, ltb}
+use Rattle.std.specs.Prelude.{◌≡◌, Bool, ◌&&◌, ◌||◌, ℕ, ◌+◌, ◌≤◌, ◌<◌, length, leb, ltb, Option, Some, None}
 use Rattle.std.proofs.Math.Path.{refl, sym, ap, subst}
 use Rattle.std.proofs.Common.{◌∙◌, get_or-set_same}
 use Rattle.std.proofs.Math.Bool.{true, false, not, cond}
@@ -21,7 +21,6 @@ use Rattle.timeline.specs.Laws.Rows.{count}
 use Rattle.timeline.specs.Laws.Inserting.{length_inserted}
 use Rattle.timeline.specs.Laws.Keeping.{booked-keeps, bookings-diary}
 use Rattle.cells.specs.Every.{every, Each, each_end, each_on}
-use Rattle.board.specs.declared.LastCategory.TheVariants.{Category}
 use Rattle.board.specs.declared.Resource.{Resource}
 use Rattle.board.specs.declared.Board.{Board}
 use Rattle.board.specs.Resources.{no_resource, resource_at, number_at, lookup_to, lookup, on_board}
@@ -172,7 +171,7 @@ last-right : (r : Resource) (companion : Bool) (category : ℕ) → category ≤
 unfolding last_after board.last_right
 last-right r companion category l h = go (r.matrix.present && not companion)
   where
-    go : (q : Bool) → board.last_right (cond q (Category category) r.last) ≡ true
+    go : (q : Bool) → board.last_right (cond q (Some category) r.last) ≡ true
     go true = le-leb category 15 l
     go false = h
 

@@ -1,5 +1,5 @@
 -- The marked runs M1 to M12 on the definitions: one theorem over one list.
-use Rattle.std.specs.Prelude.{◌≡◌, refl, false, List, [], ◌∷◌, ◌++◌, map, ℕ, ◌-◌, replicate, length, get_or, negsuc, Float}
+use Rattle.std.specs.Prelude.{◌≡◌, refl, false, List, [], ◌∷◌, ◌++◌, map, ℕ, ◌-◌, replicate, length, get_or, negsuc, Float, Option, Some, None}
 use Rattle.std.proofs.Common.{ap}
 use Rattle.std.specs.Float.{fin}
 use Rattle.std.specs.Float.Ieee.{le, eq, mul, div, of_int}
@@ -19,10 +19,9 @@ use Rattle.timeline.specs.Earliest.{fits_at, free_to, starts_at, last_event, ear
 use Rattle.timeline.specs.Diary.{insert_by_start, latest_ends, diary}
 use Rattle.timeline.specs.Book.{book_refusal, taken, book_reply}
 use Rattle.timeline.specs.Ask as asking
+use Rattle.activity.specs.declared.ResourceTiming.{ResourceTiming}
 use Rattle.activity.specs.declared.ResourceTiming.TheVariants.{Nothing}
-use Rattle.activity.specs.declared.Timed.{Timed}
 use Rattle.activity.specs.declared.ResourceRequirement.{ResourceRequirement}
-use Rattle.activity.specs.declared.Release.TheVariants.{Absent}
 use Rattle.activity.specs.declared.Activity.{Activity}
 use Rattle.activity_speeds.specs.Speeds.{half_up, round_away, process_at, is_speed}
 use Rattle.activity.specs.Durations.{untimed, greatest, product, duration_on}
@@ -96,10 +95,10 @@ board_of t u = record {
 }
 
 -- an order of this process time and quantity
-abbrev pub order : ℕ → ℕ → List Timed → Activity
+abbrev pub order : ℕ → ℕ → List ResourceTiming → Activity
 order p q timings =
     let wanted : ResourceRequirement = record { kind = 0; candidates = 0; skills = 0; quantity = q; usage = 1 } in
-    let bare = order_with 0 (lasting 0 p 0) false Absent empty 0 in
+    let bare = order_with 0 (lasting 0 p 0) false None empty 0 in
     with_timings (with_requirements bare (wanted ∷ replicate 3 no_requirement) 1) (timings ++ replicate (16 - length timings) untimed)
 
 abbrev pub entry : ℕ → Entry
@@ -190,7 +189,7 @@ pub companion-joins :
       resources = new_resource 0 0 0 (1 ∷ []) free1 ∷ new_resource 1 9 0 [] free1 ∷ replicate 14 blank_resource;
       len = 2;
       transport = replicate 256 0;
-    }) (order 100 1 (record { timing = Nothing } ∷ at two ∷ [])) 0 24
+    }) (order 100 1 (Nothing ∷ at two ∷ [])) 0 24
     ≡ placed_at 0 0 100 (entry 0 ∷ companion_entry 1 ∷ [])
 unfolding eq le mul div of_int least_from spans_from any holds meets contains calendar.cell_right every_from calendar.spans_right calendar.valid
     open_for fits working joint end_from work_end latest last_change empty bookings_to total latest_end before timeline.cell_right

@@ -1,5 +1,4 @@
 -- `timeline::blank` meets its contract: a new diary with no capacity.
-use borrow.Author.Rules.{rules}
 use mathlib.Core.Path.{refl, ap}
 use Rattle.timeline.specs.declared.ResourceTimeline.{ResourceTimeline}
 use Rattle.timeline.specs.Diary.{diary}
@@ -9,7 +8,7 @@ use Rattle.timeline.proofs.blank.Goals as goal
 pub returns : goal.returns
 unfolding diary
 returns c =
-    let e = c.new-t.ensures.0 in
+    let e = c.new.ensures.0 in
     agree _ _ (record {
       capacity = refl;
       calendar = ap (λ (t : ResourceTimeline). t.calendar) e;

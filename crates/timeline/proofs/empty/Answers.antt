@@ -1,9 +1,5 @@
-use borrow.Author.Rules.{rules}
-use borrow.Author.Tests.{not-true, not-false}
-use mathlib.Core.Path.{◌≡◌, refl, sym, ◌∙◌}
-use Prim.Native.Nat.{◌-◌, ◌≤◌}
+use mathlib.Core.Path.{refl, sym, ◌∙◌}
 use native.Mathlib.Omega.{arith}
-use Rattle.timeline.specs.Valid.{empty_from}
 use Rattle.cells.specs.Laws.Every.{from-stop, from_more, from-done}
 use Rattle.timeline.proofs.empty.Goals as goal
 

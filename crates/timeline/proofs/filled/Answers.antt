@@ -1,5 +1,3 @@
-use borrow.Author.Rules.{rules}
-use borrow.Author.Tests.{not-true, not-false}
 use mathlib.Core.Bool.{true, false}
 use mathlib.Core.Path.{◌≡◌, refl, sym, ◌∙◌}
 use Prim.Native.Nat.{◌-◌, ◌*◌, ◌≤◌}
@@ -31,13 +29,14 @@ small c = weight-le _ _ _ (facts c).range (facts c).few
 
 pub loop-i-init : goal.loop-i-init
 unfolding before total bookings_to
-loop-i-init c = (refl, c.requires, omega arith, refl, refl, simp sub-zero, refl, omega arith)
+loop-i-init c = (refl, refl, simp sub-zero, refl, omega arith)
 
 pub returns-then-not-cell_right : goal.returns-then-not-cell_right
 returns-then-not-cell_right c =
     let e = sym c.cell_right.ensures ∙ c.if-not-cell_right.true in
+    let v = c.loop-i.invariant in
     let t = c.args.t in
-    let f : false ≡ filled_from t 0 t.len = from-stop _ c.loop-i.invariant.5 c.loop-i-test.true (rw (← c.loop-i.invariant.3, ← c.loop-i.invariant.4) e) in
+    let f : false ≡ filled_from t 0 t.len = from-stop _ v.2 c.loop-i-test.true (rw (← v.0, ← v.1) e) in
     rw (← f) refl
 
 pub overflow_sub-sum : goal.overflow_sub-sum
@@ -45,29 +44,25 @@ overflow_sub-sum c =
     let f = facts c in
     omega arith
 
-pub overflow_cast-sum : goal.overflow_cast-sum
-overflow_cast-sum c =
-    let f = facts c in
-    omega arith
-
 pub overflow_mul-sum : goal.overflow_mul-sum
 overflow_mul-sum c = omega (arith, small c)
 
 pub overflow_add-sum : goal.overflow_add-sum
-overflow_add-sum c = omega (arith, small c)
+overflow_add-sum c = let v = c.loop-i.invariant in omega (arith, small c)
 
 pub loop-i-preserved : goal.loop-i-preserved
 loop-i-preserved c =
+    let v = c.loop-i.invariant in
     let e = sym c.cell_right.ensures ∙ c.if-not-cell_right.false in
     let i = c.loop-i.i in
     let t = c.args.t in
-    (refl, omega arith, omega arith, before-step _ _, before-step _ _, from_more _ c.loop-i.invariant.5 c.loop-i-test.true (rw (← c.loop-i.invariant.3, ← c.loop-i.invariant.4) e), cc (rows_step t.starts t.ends t.units i, total-snoc (bookings_to t.starts t.ends t.units i) (booking_at t.starts t.ends t.units i)), omega (arith, small c))
+    (before-step _ _, before-step _ _, from_more _ v.2 c.loop-i-test.true (rw (← v.0, ← v.1) e), cc (rows_step t.starts t.ends t.units i, total-snoc (bookings_to t.starts t.ends t.units i) (booking_at t.starts t.ends t.units i)), omega (arith, small c))
 
 pub returns : goal.returns
 returns c =
+    let v = c.loop-i.invariant in
     let t = c.args.t in
-    let i = c.loop-i.i in
-    let f : i ≡ t.len = omega arith in
-    let g : true ≡ filled_from t 0 t.len = from-done _ c.loop-i.invariant.5 (omega arith) in
-    let h : c.loop-i.sum ≡ total (bookings t) = c.loop-i.invariant.6 ∙ rw f refl in
+    let f : c.loop-i.i ≡ t.len = omega arith in
+    let g : true ≡ filled_from t 0 t.len = from-done _ v.2 (omega arith) in
+    let h : c.loop-i.sum ≡ total (bookings t) = v.3 ∙ rw f refl in
     rw (← g, ← h) refl

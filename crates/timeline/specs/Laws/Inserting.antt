@@ -103,14 +103,14 @@ opened-cells : (xs ys : List ℕ) (at v : ℕ) → at ≤ length xs → length x
 opened-cells xs ys at v h room long o =
     column ys (put_at at v xs) (suc (length xs)) long (omega arith) (put-length at v xs h)
     (λ k l. by_order k at
-    (λ m. o.low k m ∙ pad-at xs (64 - length xs) k ∙ sym (put_low 0 at v xs h k m))
-    (λ e. rw e (o.here ∙ sym (put-here 0 at v xs h)))
+    (λ m. o.low k 0 m ∙ pad-at xs (64 - length xs) k ∙ sym (put_low 0 at v xs h k m))
+    (λ e. rw e (o.here 0 ∙ sym (put-here 0 at v xs h)))
     (λ m.
     let j = k - 1 in
     let q : k ≡ suc j = omega arith in
     let d : suc j - 1 ≡ j = omega arith in
-    rw q (rw d at (o.high (suc j) (omega arith) (omega arith)) ∙ pad-at xs (64 - length xs) j ∙ sym (put-high 0 at v xs h j (omega arith)))))
-    (λ k l m. o.rest k (omega arith) ∙ pad-at xs (64 - length xs) k ∙ get_or-eq_default xs 0 (omega arith))
+    rw q (rw d at (o.high (suc j) 0 (omega arith) (omega arith)) ∙ pad-at xs (64 - length xs) j ∙ sym (put-high 0 at v xs h j (omega arith)))))
+    (λ k l m. o.rest k 0 (omega arith) ∙ pad-at xs (64 - length xs) k ∙ get_or-eq_default xs 0 (omega arith))
 
 -- the column of a field with a record put in
 pub opened-field : {X : Type 0} (f : X → ℕ) (x : X) (rs : List X) (xs ys : List ℕ) (at : ℕ) → xs ≡ cells (map f rs) → at ≤ length rs → length rs < 64

@@ -169,7 +169,7 @@ module _ (t r : ResourceTimeline) (b : Booking) (at : ℕ) (p : PutIn t r b at) 
   runs k h =
       ⊎_elim
       (λ (m : k < at).
-      rw (p.latest.low k m, p.ends.low k m, before-low t.latest r.latest p.latest.low k (omega arith))
+      rw (p.latest.low k m, p.ends.low k 0 m, before-low t.latest r.latest p.latest.low k (omega arith))
       (rs.filled k (omega (arith, p.place.few))).latest)
       (λ (m : at ≤ k). p.latest.run k m h)
       (lt-or-ge k at)

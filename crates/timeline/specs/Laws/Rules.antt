@@ -2,7 +2,7 @@
 use Rattle.std.specs.Prelude.{◌≡◌, true, ℕ, ◌-◌, ◌^◌, ◌≤◌, ◌<◌, max, get_or}
 use Rattle.std.proofs.Common.{arith, leb-true, ltb-true, eqb-true, le-leb, lt-ltb, eq-eqb}
 use Rattle.calendar.specs.declared.Calendar.{Calendar}
-use Rattle.calendar.specs.declared.Added.{Added}
+use Rattle.calendar.specs.Replies.{Added}
 use Rattle.calendar.specs.Valid as calendar
 use Rattle.cells.specs.Laws.Basics.{and_split}
 use Rattle.cells.specs.Laws.Every.{from_at, from_all}

@@ -5,7 +5,6 @@ use Rattle.std.proofs.Math.Path.{fun_ext}
 use Rattle.calendar.specs.declared.Calendar.{Calendar}
 use Rattle.cells.specs.Laws.Basics.{and_split, no_way, not-both}
 use Rattle.calendar.specs.Search.{at, least_from, greatest_of, Answers}
-use Rattle.calendar.specs.Fits.{fits}
 use Rattle.calendar.specs.Work.{joint, work_end, last_change, joint_end}
 use Rattle.calendar.specs.Laws.Searching.{least-answers}
 use Rattle.calendar.specs.Theorems.Meaning.{fits-is, working-is}

@@ -1,47 +1,39 @@
 -- `timeline_asks::earliest_fit` meets its contract.
-use borrow.Author.Rules.{rules}
-use borrow.Author.Tests.{not-true, not-false}
-use mathlib.Core.Path.{sym, ap, ◌∙◌}
-use native.Mathlib.Omega.{arith}
+use Rattle.std.proofs.Common.{rules, ◌≡◌, sym, ap, ◌∙◌, refl, arith, Err}
+use Rattle.calendar.specs.Laws.Refusals.{numbered}
 use Rattle.timeline_asks.specs.Answers.{reply_of}
-use Rattle.timeline_fit.specs.Steps.{start_of}
-use Rattle.timeline_asks.proofs.Replies.{asked-15, asked-refused, asked-reply, lawful, fit-range, unbroken-at, unbroken-none}
+use Rattle.timeline_asks.proofs.Replies.{Asked, asked-15, asked-refused, asked-reply, lawful, fit-range, unbroken-at, unbroken-none}
 use Rattle.timeline_asks.proofs.earliest_fit.Goals as goal
 
+-- what is asked is lawful
+lawfully : (c : goal.In_ok-check_ask) → Asked c.args.from c.args.span c.args.units
+lawfully c = lawful _ _ _ (sym c.in_ok-check_ask.ensures)
+
 pub returns-then-not-is_valid : goal.returns-then-not-is_valid
-unfolding reply_of
 returns-then-not-is_valid c = asked-15 _ _ _ _ _ (sym c.is_valid.ensures ∙ c.if-not-is_valid.true)
 
-pub returns-then-refusal-ne0 : goal.returns-then-refusal-ne0
-unfolding reply_of
-returns-then-refusal-ne0 c =
-    let v = sym c.is_valid.ensures ∙ c.if-not-is_valid.false in
-    asked-refused _ _ _ _ _ _ v c.ask_refusal-refusal.ensures c.if-refusal-ne0.true
+pub returns-in_err-check_ask : goal.returns-in_err-check_ask
+returns-in_err-check_ask c =
+    let r : c.from_residual.result ≡ Err c.in_err-check_ask.field-0.0 = search rules in
+    ap reply_of r ∙ asked-refused _ _ _ _ _ _ (sym c.is_valid.ensures ∙ c.if-not-is_valid.false) c.in_err-check_ask.ensures (numbered _)
 
-pub earliest_fit-found-requires : goal.earliest_fit-found-requires
-earliest_fit-found-requires c =
-    let v = sym c.is_valid.ensures ∙ c.if-not-is_valid.false in
-    let l = lawful _ _ _ (sym c.ask_refusal-refusal.ensures ∙ c.if-refusal-ne0.false) in
-    record { t_value = (v, l.from_range, l.span_range); le_units = l.some }
+pub earliest_fit-requires : goal.earliest_fit-requires
+earliest_fit-requires c =
+    let l = lawfully c in
+    record { t_value = (sym c.is_valid.ensures ∙ c.if-not-is_valid.false, l.from_range, l.span_range); le_units = l.some }
 
 pub overflow_add-result : goal.overflow_add-result
-unfolding start_of
 overflow_add-result c =
-    let v = sym c.is_valid.ensures ∙ c.if-not-is_valid.false in
-    let l = lawful _ _ _ (sym c.ask_refusal-refusal.ensures ∙ c.if-refusal-ne0.false) in
-    let f = sym c.earliest_fit-found.ensures ∙ ap start_of c.in-At.is in
-    let r = fit-range _ v _ _ _ _ l.from_range f in
+    let l = lawful _ _ _ (sym c.in_ok-check_ask.ensures) in
+    let r = fit-range _ (sym c.is_valid.ensures ∙ c.if-not-is_valid.false) _ _ _ _ l.from_range (sym c.in-Some.ensures) in
     omega arith
 
-pub returns-in-At : goal.returns-in-At
-unfolding reply_of start_of
-returns-in-At c =
+pub returns-in-Some : goal.returns-in-Some
+returns-in-Some c =
     let v = sym c.is_valid.ensures ∙ c.if-not-is_valid.false in
-    let f = sym c.earliest_fit-found.ensures ∙ ap start_of c.in-At.is in
-    unbroken-at _ _ _ f ∙ asked-reply _ _ _ _ _ _ v c.ask_refusal-refusal.ensures c.if-refusal-ne0.false
+    unbroken-at _ _ _ (sym c.in-Some.ensures) ∙ asked-reply _ _ _ _ _ 0 v c.in_ok-check_ask.ensures refl
 
-pub returns-in-Nothing : goal.returns-in-Nothing
-unfolding reply_of start_of
-returns-in-Nothing c =
+pub returns-in-None : goal.returns-in-None
+returns-in-None c =
     let v = sym c.is_valid.ensures ∙ c.if-not-is_valid.false in
-    unbroken-none _ _ (sym c.earliest_fit-found.ensures ∙ ap start_of c.in-Nothing.is) ∙ asked-reply _ _ _ _ _ _ v c.ask_refusal-refusal.ensures c.if-refusal-ne0.false
+    unbroken-none _ _ (sym c.in-None.ensures) ∙ asked-reply _ _ _ _ _ 0 v c.in_ok-check_ask.ensures refl

@@ -1,5 +1,6 @@
 -- `timeline_free::free_over` meets its contract.
-use mathlib.Core.Path.{sym}
+use mathlib.Core.Path.{sym, ◌∙◌}
+use borrow.Author.Tests.{le-leb}
 use native.Mathlib.Omega.{arith}
 use Rattle.timeline.specs.Laws.Columns.{from_cell}
 use Rattle.timeline.specs.Laws.Loading.{free-over}
@@ -14,10 +15,10 @@ pub units_over-requires : goal.units_over-requires
 units_over-requires c = from_cell _ _ _ _ _ _ _ c.requires c.cells_before-first.ensures
 
 pub returns-then-units_over-room : goal.returns-then-units_over-room
-returns-then-units_over-room c = sym (free-over c.args.room _ 0 _ _ c.args.room (omega arith) (omega (arith, c.units_over.ensures, c.if-units_over-room.true)))
+returns-then-units_over-room c = le-leb _ _ c.if-units_over-room.true ∙ sym (free-over c.args.room _ 0 _ _ c.args.room (omega arith) (omega (arith, c.units_over.ensures, c.if-units_over-room.true)))
 
 pub has_room-requires : goal.has_room-requires
 has_room-requires c = from_cell _ _ _ _ _ _ _ c.requires c.cells_before-first.ensures
 
-pub returns : goal.returns
-returns c = c.has_room.ensures
+pub returns-else-units_over-room : goal.returns-else-units_over-room
+returns-else-units_over-room c = c.has_room.ensures

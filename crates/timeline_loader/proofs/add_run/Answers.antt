@@ -1,36 +1,57 @@
 -- `timeline_loader::add_run` meets its contract: each turn of the loop takes one record from those that are left.
-use Rattle.std.proofs.Common.{◌≡◌, ℕ, ◌+◌, ◌<◌, ◌≤◌, Bool, List, length, get_or, drop, sym, ◌∙◌, add-one, drop-cons}
+use Rattle.std.proofs.Common.{rules, ◌≡◌, refl, sym, ap, ◌∙◌, ℕ, ◌+◌, ◌<◌, Bool, List, ◌∷◌, length, get_or, drop, add-one, drop-cons, Ok, Err}
 use Rattle.std.proofs.lemmas.List.{drop_all}
 use Rattle.calendar.specs.declared.Calendar.{Calendar}
-use Rattle.calendar.specs.declared.Added.{Added}
+use Rattle.calendar.specs.declared.refusal.Refusal.{Refusal}
+use Rattle.calendar.specs.Replies.{Added, added_of}
+use Rattle.calendar.specs.Laws.Refusals.{numbered}
 use Rattle.timeline_loader.specs.declared.TimeWindow.{TimeWindow}
-use Rattle.timeline_loader.specs.Steps.{onward, step_reply}
-use Rattle.timeline_loader.specs.Laws.Steps.{onward-begun, onward-none, onward-refused, onward-step}
+use Rattle.timeline_loader.specs.Run.{reply, add_one, judged}
+use Rattle.timeline_loader.specs.Laws.Judging.{judged-good, judged-bad, one-new}
+use Rattle.timeline_loader.specs.Theorems.Meaning.{run-broken, run-judged}
 use Rattle.timeline_loader.proofs.add_run.Goals as goal
 
 -- what stands past the end, for `get_or`
 abbrev none : TimeWindow
 none = record { start = 0; end = 0 }
 
--- one more record is folded in
-folds : (c : Calendar) (block : Bool) (a b : Added) (ws : List TimeWindow) (i : ℕ) (r : Added) → i < length ws → b ≡ step_reply c block a (get_or ws i none) → onward c block a (drop i ws) ≡ r
-    → onward c block b (drop (i + 1) ws) ≡ r
-folds c block a b ws i r l e f = rw (e, onward-step, add-one, ← drop-cons ws i none l) f
+module _ (c : Calendar) (block : Bool) (k : Calendar) (w : TimeWindow) (ws : List TimeWindow) where
+  -- a bad record ends the run, and its number is told
+  bad : (e : Refusal) → added_of k (Err e) ≡ add_one k block w → added_of c (Err e) ≡ judged c block k (w ∷ ws)
+  bad e h =
+      let q = ap (λ (a : Added). a.refusal) h in
+      ap (λ (n : ℕ). reply n c) q ∙ sym (judged-bad c block k w ws (λ z. numbered e (q ∙ z)))
 
--- no record is left
-folded : (c : Calendar) (block : Bool) (a : Added) (ws : List TimeWindow) (i : ℕ) (r : Added) → length ws ≤ i → onward c block a (drop i ws) ≡ r → a ≡ r
-folded c block a ws i r l f = sym (onward-none c block a) ∙ (rw (drop_all i ws l) at f)
+  -- a good one is taken
+  good : (d : Calendar) → added_of k (Ok d) ≡ add_one k block w → judged c block d ws ≡ judged c block k (w ∷ ws)
+  good d h =
+      let z = sym (ap (λ (a : Added). a.refusal) h) in
+      let g = ap (λ (a : Added). a.calendar) (h ∙ one-new k block w z) in
+      ap (λ (m : Calendar). judged c block m ws) g ∙ sym (judged-good c block k w ws z)
 
-pub loop-i-init : goal.loop-i-init
-loop-i-init c = rw c.begun-a.ensures (onward-begun _ _ _)
+-- what is left of a run begins with the record at hand
+left : (c : Calendar) (block : Bool) (k : Calendar) (ws : List TimeWindow) (i : ℕ) (r : Added) → i < length ws → judged c block k (drop i ws) ≡ r → judged c block k (get_or ws i none ∷ drop (i + 1) ws) ≡ r
+left c block k ws i r l e = rw (add-one, ← drop-cons ws i none l) e
 
-pub loop-i-preserved : goal.loop-i-preserved
-loop-i-preserved c = folds _ _ _ _ _ _ _ c.loop-i-test.true c.step-a.ensures c.loop-i.invariant
+pub returns-then-not-is_valid : goal.returns-then-not-is_valid
+returns-then-not-is_valid c = sym (run-broken _ _ _ (sym c.is_valid.ensures ∙ c.if-not-is_valid.true))
 
-pub returns-after-loop-i : goal.returns-after-loop-i
-returns-after-loop-i c = folded _ _ _ _ _ _ c.loop-i-test.false c.loop-i.invariant
+pub loop-w-init : goal.loop-w-init
+loop-w-init c = refl
 
-pub returns-then-a-ne0 : goal.returns-then-a-ne0
-returns-then-a-ne0 c =
-    sym (onward-refused _ _ _ (drop (c.loop-i.i + 1) c.args.run.now) c.if-a-ne0.true)
-    ∙ folds _ _ _ _ _ _ _ c.loop-i-test.true c.step-a.ensures c.loop-i.invariant
+pub returns-in_err-sofar : goal.returns-in_err-sofar
+returns-in_err-sofar c =
+    let r : c.from_residual.result ≡ Err c.in_err-sofar.field-0.0 = search rules in
+    ap (added_of c.args.c) r
+    ∙ bad _ _ _ _ _ _ c.in_err-sofar.ensures
+    ∙ left _ _ _ _ _ _ c.loop-w-test.true c.loop-w.invariant
+    ∙ sym (run-judged _ _ _ (sym c.is_valid.ensures ∙ c.if-not-is_valid.false))
+
+pub loop-w-preserved : goal.loop-w-preserved
+loop-w-preserved c = good _ _ _ _ _ _ c.in_ok-sofar.ensures ∙ left _ _ _ _ _ _ c.loop-w-test.true c.loop-w.invariant
+
+pub returns : goal.returns
+unfolding judged
+returns c =
+    (rw (drop_all c.loop-w.w-index c.args.run.now c.loop-w-test.false) at c.loop-w.invariant)
+    ∙ sym (run-judged _ _ _ (sym c.is_valid.ensures ∙ c.if-not-is_valid.false))

@@ -2,7 +2,7 @@
 use Rattle.std.specs.Prelude.{◌≡◌, refl, ℕ, Bool, true, false, List, [], ◌∷◌, eqb}
 use Rattle.std.proofs.Common.{sym, ap, subst, eqb-true, eq-eqb, ne_eqb}
 use Rattle.calendar.specs.declared.Calendar.{Calendar}
-use Rattle.calendar.specs.declared.Added.{Added}
+use Rattle.calendar.specs.Replies.{Added}
 use Rattle.calendar.specs.Valid.{valid}
 use Rattle.timeline_loader.specs.declared.TimeWindow.{TimeWindow}
 use Rattle.timeline_loader.specs.Run.{reply, add_one, judged, add_run}

@@ -5,12 +5,12 @@ use Rattle.std.proofs.Common.{sym, ap, subst, ◌∙◌, arith, length-append}
 use Rattle.std.proofs.lemmas.List.{length-map}
 use Rattle.calendar.specs.Limits.{last_instant}
 use Rattle.calendar.specs.declared.Calendar.{Calendar}
-use Rattle.calendar.specs.declared.Added.{Added}
+use Rattle.calendar.specs.Replies.{Added}
 use Rattle.calendar.specs.Valid.{valid}
 use Rattle.calendar.specs.Spans.{spans}
 use Rattle.calendar.specs.Laws.Spanning.{spans-long}
 use Rattle.calendar.specs.Laws.Rules.{right, windows-right, blocks-right}
-use Rattle.calendar.specs.Laws.Adding.{taken, refuse-15, refuse-4}
+use Rattle.calendar.specs.Laws.Adding.{refuse-15, refuse-4}
 use Rattle.timeline_loader.specs.declared.TimeWindow.{TimeWindow}
 use Rattle.timeline_loader.specs.Run.{reply, add_one, judged, add_run}
 use Rattle.timeline_loader.specs.Plain.{list_of, span_of, Good, AllGood, WholeArrays, TakenWhole}
@@ -23,7 +23,7 @@ pub run-broken : (c : Calendar) (block : Bool) (ws : List TimeWindow) → valid 
 unfolding add_run
 run-broken c block ws v = rw (add_run, v) refl
 
-run-judged : (c : Calendar) (block : Bool) (ws : List TimeWindow) → valid c ≡ true → add_run c block ws ≡ judged c block c ws
+pub run-judged : (c : Calendar) (block : Bool) (ws : List TimeWindow) → valid c ≡ true → add_run c block ws ≡ judged c block c ws
 unfolding add_run
 run-judged c block ws v = rw (add_run, v) refl
 

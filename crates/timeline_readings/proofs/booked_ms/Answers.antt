@@ -1,5 +1,4 @@
 -- `timeline_readings::booked_ms` meets its contract: a diary that keeps the rules has its total in its cell.
-use borrow.Author.Rules.{rules}
 use mathlib.Core.Path.{◌≡◌, refl, ap, ◌∙◌}
 use mathlib.Core.Bool.{Bool, true, false, not, cond}
 use Rattle.timeline.specs.declared.ResourceTimeline.{ResourceTimeline}

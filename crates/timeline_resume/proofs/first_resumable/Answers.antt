@@ -1,19 +1,16 @@
 use borrow.Author.Rules.{rules}
 use borrow.Author.Count.{below_none, below_more}
 use mathlib.Core.Path.{◌≡◌, sym, ap, ◌∙◌}
-use mathlib.Core.Bool.{false}
-use mathlib.Core.Logic.{⊎_elim}
-use Prim.Native.Nat.{ℕ, ◌+◌, ◌-◌, ◌≤◌, ◌<◌}
+use Prim.Native.Nat.{◌+◌, ◌-◌}
 use native.Mathlib.Omega.{arith}
-use lib.ListN.{length, get_or}
 use Rattle.calendar_work.specs.Layout.{found_of}
-use Rattle.timeline.specs.Bookings.{bookings_to}
+use Rattle.timeline.specs.Ask.{ended}
 use Rattle.timeline.specs.Laws.Rules.{rules_of}
 use Rattle.timeline.specs.Laws.Columns.{columns}
-use Rattle.timeline_resume.proofs.Finding.{free_until, end_over, until_end, until_none, start-listed, start-unlisted}
+use Rattle.timeline_resume.proofs.Finding.{until_end, until_none, start-listed, start-unlisted}
 use Rattle.timeline_resume.proofs.Trying.{candidate-range}
 use Rattle.timeline_resume.proofs.first_resumable.Goals as goal
-use Rattle.timeline_resume.proofs.first_resumable.Goals.{in-At+else-free_over, in_default}
+use Rattle.timeline_resume.proofs.first_resumable.Goals.{in-Some+else-free_over, in_default}
 
 pub overflow_sub-room : goal.overflow_sub-room
 overflow_sub-room c = c.requires.3
@@ -25,13 +22,13 @@ pub start_candidates-n-requires : goal.start_candidates-n-requires
 start_candidates-n-requires c = (c.requires.0, omega arith)
 
 pub loop-i-init : goal.loop-i-init
-loop-i-init c = (omega arith, c.start_candidates-n.ensures.few, search rules, search rules, below_none _)
+loop-i-init c = (search rules, search rules, below_none _)
 
 pub slice_bounds-work_end-end : goal.slice_bounds-work_end-end
-slice_bounds-work_end-end c = sym c.loop-i.invariant.3
+slice_bounds-work_end-end c = sym c.loop-i.invariant.1
 
-pub work_end-end-requires : goal.work_end-end-requires
-work_end-end-requires c =
+pub work_end-requires : goal.work_end-requires
+work_end-requires c =
     let q = c.requires in
     let v = c.loop-i.invariant in
     let w = c.working_time-m.ensures in
@@ -42,30 +39,27 @@ pub free_over-requires : goal.free_over-requires
 free_over-requires c = columns _ (rules_of _ c.requires.0)
 
 pub returns-then-free_over : goal.returns-then-free_over
-unfolding found_of
+unfolding ended
 returns-then-free_over c =
     let e : c.args.units + (c.args.t.capacity - c.args.units) ≡ c.args.t.capacity = omega (arith, c.requires.3) in
-    start-listed _ c.requires.0 _ _ _ _ c.start_candidates-n.ensures c.requires.1 _ _ _ e _ _ c.working_time-m.ensures.1 _ _ c.loop-i-test.true c.loop-i.invariant.4
-    (sym c.work_end-end.ensures ∙ ap found_of c.in-At.is) (sym c.free_over.ensures ∙ c.if-free_over.true)
+    start-listed _ c.requires.0 _ _ _ _ c.start_candidates-n.ensures c.requires.1 _ _ _ e _ _ c.working_time-m.ensures.1 _ _ c.loop-i-test.true c.loop-i.invariant.2
+    (sym c.work_end.ensures ∙ ap found_of c.in-Some.is) (sym c.free_over.ensures ∙ c.if-free_over.true)
 
 pub loop-i-preserved : goal.loop-i-preserved
-unfolding found_of
 loop-i-preserved c =
     let v = c.loop-i.invariant in (
-      omega arith,
+      v.0,
       v.1,
-      v.2,
-      v.3,
-      below_more _ _ v.4
-          (elim c.match-end.branch [
-            | in-At+else-free_over w ↦ until_end _ _ _ _ _ _ (sym c.work_end-end.ensures ∙ ap found_of w.in-At.is) (sym w.free_over.ensures ∙ w.if-free_over.false)
-            | in_default w ↦ until_none _ _ _ _ (sym c.work_end-end.ensures ∙ ap found_of w.in_default.is)
+      below_more _ _ v.2
+          (elim c.match-work_end.branch [
+            | in-Some+else-free_over w ↦ until_end _ _ _ _ _ _ (sym c.work_end.ensures ∙ ap found_of w.in-Some.is) (sym w.free_over.ensures ∙ w.if-free_over.false)
+            | in_default w ↦ until_none _ _ _ _ (sym c.work_end.ensures ∙ ap found_of w.in_default.is)
           ]),
     )
 
 pub returns : goal.returns
-unfolding found_of
+unfolding ended
 returns c =
     let v = c.loop-i.invariant in
     let e : c.args.units + (c.args.t.capacity - c.args.units) ≡ c.args.t.capacity = omega (arith, c.requires.3) in
-    start-unlisted _ c.requires.0 _ _ _ _ c.start_candidates-n.ensures c.requires.1 _ _ _ e _ _ c.working_time-m.ensures.1 (λ k h. v.4 k (omega arith))
+    start-unlisted _ c.requires.0 _ _ _ _ c.start_candidates-n.ensures c.requires.1 _ _ _ e _ _ c.working_time-m.ensures.1 (λ k h. v.2 k (omega arith))

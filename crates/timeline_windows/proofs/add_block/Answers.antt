@@ -1,13 +1,18 @@
 -- `timeline_windows::add_block` meets its contract.
-use borrow.Author.Rules.{rules}
-use mathlib.Core.Path.{ap, ◌∙◌}
+use Rattle.std.proofs.Common.{◌≡◌, true, IfOk, ap, ◌∙◌}
+use Rattle.std.proofs.lemmas.Result.{IfOk-weaker}
+use Rattle.calendar.specs.Valid as calendar
+use Rattle.timeline.specs.Valid.{valid}
 use Rattle.timeline.specs.Book.{calendar_reply}
 use Rattle.timeline.specs.Laws.Rules.{rules_of}
 use Rattle.timeline_windows.proofs.add_block.Goals as goal
 
-pub returns : goal.returns
-returns c =
+pub returns-clause-value : goal.returns-clause-value
+returns-clause-value c = c.calendar_reply.ensures.value ∙ ap (calendar_reply c.args.t) c.add_block.ensures.value
+
+pub returns-clause-timeline_value : goal.returns-clause-timeline_value
+returns-clause-timeline_value c =
     let t = c.args.t in
-    let added = c.add_block-added.ensures in
-    let r = c.calendar_reply.ensures in
-    record { value = r.value ∙ ap (calendar_reply t) added.value; timeline_value = λ h. r.timeline_value h (added.calendar_value (rules_of t h).calendar) }
+    let kept : valid t ≡ true → IfOk c.add_block.result (λ k. calendar.valid k ≡ true) =
+    λ v. IfOk-weaker c.add_block.result (λ k. calendar.valid t.calendar ≡ true → calendar.valid k ≡ true) (λ k. calendar.valid k ≡ true) (λ k g. g (rules_of t v).calendar) c.add_block.ensures.calendar_value in
+    IfOk-weaker c.calendar_reply.result (λ d. valid t ≡ true → IfOk c.add_block.result (λ k. calendar.valid k ≡ true) → valid d ≡ true) (λ d. valid t ≡ true → valid d ≡ true) (λ d h v. h v (kept v)) c.calendar_reply.ensures.timeline_value

@@ -1,21 +1,11 @@
 -- `timeline_windows::calendar_reply` meets its contract.
-use borrow.Author.Rules.{rules}
-use borrow.Author.Tests.{not-true, not-false}
-use mathlib.Core.Path.{sym, ◌∙◌}
+use Rattle.std.proofs.Common.{◌≡◌, true}
+use Rattle.std.proofs.lemmas.Result.{IfOk-at_ok}
+use Rattle.calendar.specs.Valid.{valid}
 use Rattle.timeline.specs.Diary.{with_calendar}
-use Rattle.timeline.specs.Book.{calendar_reply}
 use Rattle.timeline.specs.Laws.Rules.{recalendared}
 use Rattle.timeline_windows.proofs.calendar_reply.Goals as goal
 
-pub returns-then-not-is_valid : goal.returns-then-not-is_valid
-unfolding calendar_reply
-returns-then-not-is_valid c =
-    let v = sym c.is_valid.ensures ∙ c.if-not-is_valid.true in
-    record { value = simp v; timeline_value = λ h k. h }
-
-pub returns : goal.returns
-unfolding calendar_reply with_calendar
-returns c =
-    let t = c.args.t in
-    let v = sym c.is_valid.ensures ∙ c.if-not-is_valid.false in
-    record { value = simp v; timeline_value = λ h k. recalendared t _ h k }
+pub returns-clause-timeline_value : goal.returns-clause-timeline_value
+unfolding with_calendar
+returns-clause-timeline_value c = λ v k. recalendared c.args.t _ v (IfOk-at_ok (λ d. valid d ≡ true) c.in_ok-calendar.was k)

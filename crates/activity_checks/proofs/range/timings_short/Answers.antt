@@ -1,30 +1,11 @@
-use borrow.Author.Rules.{rules}
-use borrow.Author.Tests.{not-true, not-false}
-use mathlib.Core.Path.{◌≡◌, refl, sym, ◌∙◌}
-use Prim.Native.Nat.{◌-◌, ◌≤◌}
-use native.Mathlib.Omega.{arith}
-use lib.ListN.{length, drop}
-use Rattle.activity.specs.declared.Timed.{Timed}
+-- `activity_checks::range::timings_short` meets its contract.
+use borrow.Author.Tests.{tests}
+use Rattle.std.proofs.Common.{rules}
+use Rattle.std.proofs.lemmas.Iterator.{YieldsList-from_slice}
+use Rattle.cells.specs.Laws.Chains.{every_from_all}
 use Rattle.activity.specs.Durations.{untimed}
-use Rattle.cells.specs.Every.{every}
-use Rattle.cells.specs.Laws.Every.{all-stop, all_more, all_done}
 use Rattle.activity.specs.Check.{timing_short}
 use Rattle.activity_checks.proofs.range.timings_short.Goals as goal
 
-pub loop-i-init : goal.loop-i-init
-loop-i-init c = (search rules, omega arith, refl)
-
-pub returns-then-not-timing_short : goal.returns-then-not-timing_short
-returns-then-not-timing_short c =
-    let l = c.loop-i in
-    all-stop _ _ l.i untimed l.invariant.2 (omega arith) (sym c.timing_short.ensures ∙ c.if-not-timing_short.true)
-
-pub loop-i-preserved : goal.loop-i-preserved
-loop-i-preserved c =
-    let l = c.loop-i in
-    (l.invariant.0, omega arith, all_more _ _ l.i untimed l.invariant.2 (omega arith) (sym c.timing_short.ensures ∙ c.if-not-timing_short.false))
-
 pub returns : goal.returns
-returns c =
-    let l = c.loop-i in
-    all_done _ _ l.i l.invariant.2 (omega arith)
+returns c = every_from_all _ _ _ timing_short untimed c.all.ensures.ran (YieldsList-from_slice c.args.timings (cc)) (λ x q k. search (rules, tests)) (λ x q k. search (rules, tests))

@@ -1,17 +1,17 @@
 -- `run_spoilt::same::same_last` meets its contract.
+use Rattle.std.specs.Prelude.{Option, Some, None}
 use Rattle.std.proofs.Common.{sym, ap, ◌∙◌, rules, eqb-true}
 use mathlib.Core.Bool.{false≢true}
-use Rattle.board.specs.declared.LastCategory.TheVariants.{Category}
 use Rattle.run_spoilt.proofs.same.same_last.Goals as goal
 
-pub returns-in-Nothing-b : goal.returns-in-Nothing-b
-returns-in-Nothing-b c = λ h. c.in-Nothing.is ∙ sym c.in-Nothing-b.is
+pub returns-in-None-b : goal.returns-in-None-b
+returns-in-None-b c = λ h. c.in-None.is ∙ sym c.in-None-b.is
 
-pub returns-in-Category-b : goal.returns-in-Category-b
-returns-in-Category-b c = λ h. absurd (false≢true h)
+pub returns-in-Some-b : goal.returns-in-Some-b
+returns-in-Some-b c = λ h. absurd (false≢true h)
 
-pub returns-in-Nothing-b-2 : goal.returns-in-Nothing-b-2
-returns-in-Nothing-b-2 c = λ h. absurd (false≢true h)
+pub returns-in-None-b-2 : goal.returns-in-None-b-2
+returns-in-None-b-2 c = λ h. absurd (false≢true h)
 
-pub returns-in-Category-b-2 : goal.returns-in-Category-b-2
-returns-in-Category-b-2 c = λ h. c.in-Category.is ∙ ap Category (eqb-true _ _ h) ∙ sym c.in-Category-b-2.is
+pub returns-in-Some-b-2 : goal.returns-in-Some-b-2
+returns-in-Some-b-2 c = λ h. c.in-Some.is ∙ ap Some (eqb-true _ _ h) ∙ sym c.in-Some-b-2.is

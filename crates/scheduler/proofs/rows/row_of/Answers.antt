@@ -1,10 +1,13 @@
 -- `scheduler::rows::row_of` meets its contract.
-use mathlib.Core.Path.{refl}
+use mir.Val.{bool_byte}
+use Rattle.std.proofs.Common.{◌≡◌, refl, Bool, true, false, cond}
 use Rattle.scheduler.specs.Rows.{row_of}
 use Rattle.scheduler.proofs.rows.row_of.Goals as goal
-use Rattle.scheduler.proofs.rows.row_of.Goals.{then-e, else-e}
+
+byte-is : (b : Bool) → bool_byte b ≡ cond b 1 0
+byte-is true = refl
+byte-is false = refl
 
 pub returns : goal.returns
 unfolding row_of
-returns c =
-    elim c.if-e.branch [ then-e w ↦ rw (w.companion-is, w.if-e.true) refl | else-e w ↦ rw (w.companion-is, w.if-e.false) refl ]
+returns c = rw (c.from.ensures, c.from-2.ensures, c.from-3.ensures, byte-is c.args.e.companion) refl

@@ -1,15 +1,13 @@
 -- `timeline::ResourceTimeline::book` meets its contract: a refusal leaves the diary as it is, and without one the booking goes in.
-use borrow.Author.Rules.{rules}
 use borrow.Author.Tests.{not-false, ltb-false, leb-false}
-use mathlib.Core.Path.{◌≡◌, refl, sym, ◌∙◌}
+use mathlib.Core.Path.{◌≡◌, sym}
 use mathlib.Core.Bool.{true, not, ◌||◌}
-use Prim.Native.Nat.{ℕ, zero, suc, ◌^◌, ◌≤◌, ◌<◌}
-use native.Mathlib.Omega.{arith}
+use Prim.Native.Nat.{ℕ, ◌^◌, ◌≤◌, ◌<◌}
 use lib.Dec.{leb, ltb}
 use Rattle.cells.specs.Laws.Basics.{or_left, or_right, unrefused}
 use Rattle.timeline.specs.declared.ResourceTimeline.{ResourceTimeline}
 use Rattle.timeline.specs.Valid.{valid}
-use Rattle.timeline.specs.Book.{book_refusal, taken, book_reply}
+use Rattle.timeline.specs.Book.{book_refusal}
 use Rattle.timeline.proofs.ResourceTimeline.book.Goals as goal
 
 -- what no refusal says of a booking
@@ -38,28 +36,11 @@ bookable t s e u z =
       few = ltb-false 10000 u (or_right (ltb u 1) (ltb 10000 u) x3.0);
     }
 
-refused : (n : ℕ) (t more : ResourceTimeline) → (n ≡ 0 → ⊥) → record { refusal = n; timeline = t } ≡ taken n t more
-unfolding taken
-refused zero t more h = absurd (h refl)
-refused (suc n) t more h = refl
+accepted : (c : goal.In_ok-check_booking) → Accepting c.args.self c.args.start c.args.end c.args.units
+accepted c = bookable _ _ _ _ (sym c.in_ok-check_booking.ensures)
 
-booked : (n : ℕ) (t more : ResourceTimeline) → n ≡ 0 → record { refusal = 0; timeline = more } ≡ taken n t more
-unfolding taken
-booked zero t more h = refl
-booked (suc n) t more h = absurd (omega arith)
+pub insert-requires-clause-t_value : goal.insert-requires-clause-t_value
+insert-requires-clause-t_value c = (accepted c).keeps
 
-pub returns-then-n-ne0 : goal.returns-then-n-ne0
-unfolding book_reply
-returns-then-n-ne0 c = record { value = rw (← c.book_refusal-n.ensures) (refused _ _ _ (omega arith)); timeline_value = λ h. h }
-
-pub insert-more-requires : goal.insert-more-requires
-insert-more-requires c =
-    let a = c.args in
-    let b = bookable a.self a.start a.end a.units (sym c.book_refusal-n.ensures ∙ omega arith) in
-    record { t_value = b.keeps; len_bound = (b.room, b.order, b.range, (b.some, b.few)) }
-
-pub returns : goal.returns
-unfolding book_reply
-returns c =
-    let e = c.insert-more.ensures in
-    record { value = rw (← c.book_refusal-n.ensures, e.0) (booked _ _ _ (omega arith)); timeline_value = λ h. e.1 }
+pub insert-requires-clause-len_bound : goal.insert-requires-clause-len_bound
+insert-requires-clause-len_bound c = let b = accepted c in (b.room, b.order, b.range, (b.some, b.few))
