@@ -12,8 +12,7 @@ use Rattle.activity.specs.declared.ResourceTiming.TheVariants.{Speed, Duration}
 use Rattle.activity.specs.declared.ResourceRequirement.{ResourceRequirement}
 use Rattle.activity.specs.declared.Activity.{Activity}
 use Rattle.record_desk.specs.declared.Desk.{Desk}
-use Rattle.record_board.specs.declared.DeskStepped.{DeskStepped}
-use Rattle.record_board.specs.declared.order.Ordered.{Ordered}
+use Rattle.record_board.specs.Replies.{DeskStepped, Ordered}
 use Rattle.activity.specs.Order.{order_with, with_requirement, with_timing}
 use Rattle.record_desk.specs.Desk.{with_diary, with_order}
 use Rattle.record_bodies.specs.Bodies.{byte}

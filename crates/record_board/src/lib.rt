@@ -1,28 +1,20 @@
 // What a record of a stream does to a diary in hand, an order in hand and a board (docs/RECORDS.md, kinds 1 to 4 and 16 to 24).
 #![tactic(auto)]
 
-use board::{Board, Entered};
-use order::Ordered;
+use board::Board;
+use calendar::Refusal;
 use record_bodies::{BoardKind, Change, Entry, number};
 use record_desk::Desk;
-use record_diary::DiaryStepped;
-use record_diary_text::Line;
 use timeline::ResourceTimeline;
 
 mod order;
 
 ghost use Rattle.std.specs.Prelude.{◌≡◌, ◌+◌, ◌≤◌, ◌<◌, length};
-ghost use Rattle.record_diary_text.specs.Lines.{line_of};
+ghost use Rattle.board.specs.Replies.{entered_of};
 ghost use Rattle.record_bodies.specs.Bodies.{diary_len, fixed_len, len_of};
 ghost use Rattle.record_bodies.specs.Kinds.{change_number, entry_number, board_number};
-ghost use Rattle.record_board.specs.Records.{signed as signed_of, refusal_of, diary_does, add_does, entry_reply, step_reply};
-
-// What a record does: what is in hand afterwards, and the refusal's number, 0 for none. 9 ends the stream.
-#[derive(Clone, Copy)]
-pub struct DeskStepped {
-    pub desk: Desk,
-    pub refusal: u8,
-}
+ghost use Rattle.record_board.specs.Records.{signed as signed_of, diary_does, add_does, entry_reply, step_reply};
+ghost use Rattle.record_board.specs.Replies.{stepped_of};
 
 // A signed number by its 64 bits.
 #[tactic(auto, unfolding(crate::specs::Records::signed))]
@@ -32,62 +24,45 @@ fn signed(bits: u64) -> i64
     bits.cast_signed()
 }
 
-#[tactic(auto, unfolding(crate::specs::Records::refusal_of, record_diary_text::specs::Lines::line_of))]
-fn line_refusal(line: Line) -> u8
-    ensures { result ≡ refusal_of (line_of line) }
-{
-    match line {
-        Line::Nothing | Line::Fit(_, _) | Line::None => 0,
-        Line::Refused(n) => n,
-    }
-}
-
 // Kinds 1 to 4: as in `slot`, on the diary in hand.
-#[tactic(auto, unfolding(crate::specs::Records::diary_does, crate::specs::Records::diary_told, record_diary::specs::Records::stepped_of))]
-fn on_diary(desk: Desk, change: Change, bytes: &[u8], at: usize) -> DeskStepped
+#[tactic(auto, using(calendar::specs::Laws::Refusals::numbered), unfolding(crate::specs::Records::diary_does, crate::specs::Records::diary_told, crate::specs::Records::refusal_of, record_diary::specs::Records::books))]
+fn on_diary(desk: Desk, change: Change, bytes: &[u8], at: usize) -> Result<Desk, Refusal>
     requires { at + diary_len (change_number change) ≤ length bytes.now }
-    ensures { result ≡ diary_does desk (change_number change) bytes.now at }
+    ensures { stepped_of desk result ≡ diary_does desk (change_number change) bytes.now at }
 {
-    let DiaryStepped { timeline, line } = record_diary::change(desk.timeline, change, bytes, at);
-    DeskStepped {
-        desk: Desk { timeline, ..desk },
-        refusal: line_refusal(line),
-    }
+    let timeline = record_diary::change(desk.timeline, change, bytes, at)?;
+    Ok(Desk { timeline, ..desk })
 }
 
 // Kind 16: the diary in hand goes to the board, and an empty one is in hand.
-#[tactic(auto, unfolding(crate::specs::Records::add_does, crate::specs::Records::added))]
-fn add(desk: Desk, bytes: &[u8], at: usize, count: usize) -> DeskStepped
+#[tactic(auto, using(calendar::specs::Laws::Refusals::numbered), unfolding(crate::specs::Records::add_does, crate::specs::Records::added))]
+fn add(desk: Desk, bytes: &[u8], at: usize, count: usize) -> Result<Desk, Refusal>
     requires { at + 11 + count ≤ length bytes.now }
-    ensures { result ≡ add_does desk bytes.now at count }
+    ensures { stepped_of desk result ≡ add_does desk bytes.now at count }
 {
-    let Entered { refusal, board } = board_resources::add_resource(
+    let skills = number(bytes, at + 2, 8);
+    let companions = &bytes[at + 11..at + 11 + count];
+    let board = board_resources::add_resource(
         desk.board,
         bytes[at],
         bytes[at + 1],
-        number(bytes, at + 2, 8),
-        &bytes[at + 11..at + 11 + count],
+        skills,
+        companions,
         desk.timeline,
-    );
-    if refusal != 0 {
-        return DeskStepped { desk, refusal };
-    }
+    )?;
     let timeline = ResourceTimeline::new(1);
-    DeskStepped {
-        desk: Desk {
-            timeline,
-            board,
-            ..desk
-        },
-        refusal: 0,
-    }
+    Ok(Desk {
+        timeline,
+        board,
+        ..desk
+    })
 }
 
 // Kinds 17 to 20: an entry of the board.
 #[tactic(auto, unfolding(crate::specs::Records::entry_reply, record_bodies::specs::Bodies::fixed_len))]
-fn entry(board: Board, entry: Entry, bytes: &[u8], at: usize) -> Entered
+fn entry(board: Board, entry: Entry, bytes: &[u8], at: usize) -> Result<Board, Refusal>
     requires { at + fixed_len (entry_number entry) ≤ length bytes.now }
-    ensures { result ≡ entry_reply board (entry_number entry) bytes.now at }
+    ensures { entered_of board result ≡ entry_reply board (entry_number entry) bytes.now at }
 {
     match entry {
         Entry::Matrix => {
@@ -112,27 +87,21 @@ fn entry(board: Board, entry: Entry, bytes: &[u8], at: usize) -> Entered
 
 // What one record does, its body beginning at `at`. A refused record changes nothing.
 #[tactic(auto, unfolding(crate::specs::Records::step_reply, record_bodies::specs::Bodies::len_of, record_bodies::specs::Bodies::fixed_len))]
-pub fn step(desk: Desk, kind: BoardKind, bytes: &[u8], at: usize) -> DeskStepped
+pub fn step(desk: Desk, kind: BoardKind, bytes: &[u8], at: usize) -> Result<Desk, Refusal>
     requires { at + len_of (board_number kind) bytes.now at ≤ length bytes.now }
-    ensures { result ≡ step_reply desk (board_number kind) bytes.now at }
+    ensures { stepped_of desk result ≡ step_reply desk (board_number kind) bytes.now at }
 {
     match kind {
-        BoardKind::Change(c) => on_diary(desk, c, bytes, at),
+        BoardKind::Change(kind) => on_diary(desk, kind, bytes, at),
         BoardKind::Resource => add(desk, bytes, at, usize::from(bytes[at + 10])),
-        BoardKind::Entry(e) => {
-            let Entered { refusal, board } = entry(desk.board, e, bytes, at);
-            DeskStepped {
-                desk: Desk { board, ..desk },
-                refusal,
-            }
+        BoardKind::Entry(kind) => {
+            let board = entry(desk.board, kind, bytes, at)?;
+            Ok(Desk { board, ..desk })
         }
         BoardKind::Order => order::new_order(desk, bytes, at),
-        BoardKind::Part(p) => {
-            let Ordered { refusal, activity } = order::part(desk.activity, p, bytes, at);
-            DeskStepped {
-                desk: Desk { activity, ..desk },
-                refusal,
-            }
+        BoardKind::Part(kind) => {
+            let activity = order::part(desk.activity, kind, bytes, at)?;
+            Ok(Desk { activity, ..desk })
         }
     }
 }

@@ -3,23 +3,16 @@ ghost use Rattle.std.specs.Prelude.{◌≡◌, ◌+◌, ◌≤◌, length};
 ghost use Rattle.record_bodies.specs.Bodies.{fixed_len};
 ghost use Rattle.record_bodies.specs.Kinds.{part_number};
 ghost use Rattle.record_board.specs.Orders.{duration_at, release_of, requirement_at, timed};
+ghost use Rattle.record_board.specs.Replies.{stepped_of, ordered_of};
 ghost use Rattle.record_board.specs.Orders.{part_reply, flag_above, order_by, order_does};
 
-use crate::DeskStepped;
 use activity::order::{order_with, with_requirement, with_timing};
-use activity::{Activity, ActivityDuration, Release, ResourceRequirement, ResourceTiming};
-use calendar::Calendar;
+use activity::{Activity, ActivityDuration, ResourceRequirement, ResourceTiming};
+use calendar::{Calendar, Refusal};
 use record_bodies::{Part, number};
 use record_desk::Desk;
 use std::num::f64_from_bits_with_nan;
 use timeline::ResourceTimeline;
-
-// What a part of an order answers: the refusal's number, 0 for none, and the order, new or unchanged.
-#[derive(Clone, Copy)]
-pub struct Ordered {
-    pub refusal: u8,
-    pub activity: Activity,
-}
 
 // Setup, process, teardown.
 fn duration_at(bytes: &[u8], at: usize) -> ActivityDuration
@@ -34,14 +27,10 @@ fn duration_at(bytes: &[u8], at: usize) -> ActivityDuration
 }
 
 #[tactic(auto, unfolding(crate::specs::Orders::release_of))]
-fn release_of(present: u8, release: u64) -> Release
+fn release_of(present: u8, release: u64) -> Option<u64>
     ensures { result ≡ release_of present release }
 {
-    if present == 1 {
-        Release::At(release)
-    } else {
-        Release::Absent
-    }
+    (present == 1).then_some(release)
 }
 
 fn flag_above(bytes: &[u8], at: usize) -> bool
@@ -72,46 +61,34 @@ fn order_by(bytes: &[u8], at: usize, calendar: Calendar) -> Activity
 
 // Kind 21: a new order in hand. Where it takes the diary's calendar, an empty diary is in hand afterwards. A flag above 1: 9.
 #[tactic(auto, unfolding(crate::specs::Orders::order_does, crate::specs::Orders::order_at))]
-pub fn new_order(desk: Desk, bytes: &[u8], at: usize) -> DeskStepped
+pub fn new_order(desk: Desk, bytes: &[u8], at: usize) -> Result<Desk, Refusal>
     requires { at + 38 ≤ length bytes.now }
-    ensures { result ≡ order_does desk bytes.now at }
+    ensures { stepped_of desk result ≡ order_does desk bytes.now at }
 {
     if flag_above(bytes, at) {
-        return DeskStepped { desk, refusal: 9 };
+        return Err(Refusal::Unreadable);
     }
     if bytes[at + 37] == 0 {
         let activity = order_by(bytes, at, Calendar::new());
-        return DeskStepped {
-            desk: Desk { activity, ..desk },
-            refusal: 0,
-        };
+        return Ok(Desk { activity, ..desk });
     }
     let activity = order_by(bytes, at, desk.timeline.calendar);
     let timeline = ResourceTimeline::new(1);
-    DeskStepped {
-        desk: Desk {
-            timeline,
-            activity,
-            ..desk
-        },
-        refusal: 0,
-    }
+    Ok(Desk {
+        timeline,
+        activity,
+        ..desk
+    })
 }
 
 // A timing on the resource of this number: 5 above 15.
-fn timed(activity: Activity, number: u8, timing: ResourceTiming) -> Ordered
-    ensures { result ≡ timed activity number timing }
+fn timed(activity: Activity, number: u8, timing: ResourceTiming) -> Result<Activity, Refusal>
+    ensures { ordered_of activity result ≡ timed activity number timing }
 {
     if number > 15 {
-        return Ordered {
-            refusal: 5,
-            activity,
-        };
+        return Err(Refusal::Number);
     }
-    Ordered {
-        refusal: 0,
-        activity: with_timing(activity, number, timing),
-    }
+    Ok(with_timing(activity, number, timing))
 }
 
 fn requirement_at(bytes: &[u8], at: usize) -> ResourceRequirement
@@ -129,15 +106,12 @@ fn requirement_at(bytes: &[u8], at: usize) -> ResourceRequirement
 
 // Kinds 22 to 24: one requirement more, or a timing, a speed or own durations; 5 a number above 15.
 #[tactic(auto, unfolding(crate::specs::Orders::part_reply, crate::specs::Orders::timing_at, record_bodies::specs::Bodies::fixed_len))]
-pub fn part(activity: Activity, part: Part, bytes: &[u8], at: usize) -> Ordered
+pub fn part(activity: Activity, part: Part, bytes: &[u8], at: usize) -> Result<Activity, Refusal>
     requires { at + fixed_len (part_number part) ≤ length bytes.now }
-    ensures { result ≡ part_reply activity (part_number part) bytes.now at }
+    ensures { ordered_of activity result ≡ part_reply activity (part_number part) bytes.now at }
 {
     match part {
-        Part::Requirement => Ordered {
-            refusal: 0,
-            activity: with_requirement(activity, requirement_at(bytes, at)),
-        },
+        Part::Requirement => Ok(with_requirement(activity, requirement_at(bytes, at))),
         Part::Speed => {
             let speed = f64_from_bits_with_nan(number(bytes, at + 1, 8));
             timed(activity, bytes[at], ResourceTiming::Speed(speed))
