@@ -22,7 +22,6 @@ use place_companions::member_of;
 use place_plans::Plan;
 use place_rounds::Choice;
 use std::ops::ControlFlow;
-use timeline_fit::Start;
 
 // The least start of the resource at place i for requirement j, from t on, or 2^63: it is asked with its companions one after another.
 fn least_start(
@@ -49,7 +48,7 @@ fn least_start(
                 m.units,
                 m.from,
             ),
-            None => Start::Nothing,
+            None => None,
         };
         g = place_companions::answered(g.next, m.from, s);
     }

@@ -18,7 +18,6 @@ use board::Board;
 use calendar::Calendar;
 use place_entries::Entries;
 use timeline::ResourceTimeline;
-use timeline_fit::Start;
 
 // The order's own calendar as a diary that nothing books.
 pub fn own_timeline(calendar: Calendar) -> ResourceTimeline
@@ -70,14 +69,9 @@ pub fn fit_unbroken(
     // A `while`: the asking goes on from one diary to the next, and back to the first where the start has moved on.
     while i <= e.count {
         let (d, units) = diary_at(&b, &e, places, &first, i);
-        let s = timeline_fit::earliest_fit(*d, t, span, units);
-        match s {
-            Start::At(x) => {
-                i = place_companions::next_asked(i, x == t);
-                t = x;
-            }
-            Start::Nothing => return None,
-        }
+        let x = timeline_fit::earliest_fit(*d, t, span, units)?;
+        i = place_companions::next_asked(i, x == t);
+        t = x;
     }
     Some((t, t + span))
 }

@@ -17,7 +17,7 @@ use Rattle.calendar.specs.Search.{Found, nothing, at, when}
 use Rattle.calendar.specs.Laws.Searching.{not_at}
 use Rattle.calendar.specs.Work.{joint, joint_end}
 use Rattle.calendar.specs.Valid as calendar
-use Rattle.calendar_work.specs.Layout.{Layout, laid}
+use Rattle.calendar_work.specs.Layout.{Layout, laid, found_of}
 use Rattle.calendar.specs.Add.{no_calendar}
 use Rattle.calendar_joint.specs.Layout.{Ruled}
 use Rattle.calendar_joint.proofs.Ending.{layout-end}
@@ -43,7 +43,7 @@ use Rattle.calendar.specs.Work.{work_end}
 use Rattle.cells.specs.Cells.{before}
 use Rattle.scheduler.specs.Laws.Together.{Sound, Calm}
 use Rattle.scheduler.specs.Laws.Owning.{suits_on, least_on}
-use Rattle.place_resume.specs.Trials.{if_free, end_found}
+use Rattle.place_resume.specs.Trials.{if_free}
 use Rattle.place_resume.proofs.Resuming.{end_free, Least, found, onward, over}
 
 -- with no diary asked, the joint end itself
@@ -57,20 +57,20 @@ free_more : (xs : List Share) (x : Share) (s e : ℕ) → all_free (xs ++ (x ∷
 unfolding all_free every
 free_more xs x s e = every_append (λ (y : Share). free_on y.timeline y.units s e) xs (x ∷ []) ∙ ap (λ (p : Bool). all_free xs s e && p) (and-true (free_on x.timeline x.units s e))
 
-end_more : (xs : List Share) (x : Share) (s : ℕ) (end : Option ℕ) (f : Found) → end_found end ≡ end_free xs s f → end_found (if_free x.timeline x.units s end) ≡ end_free (xs ++ (x ∷ [])) s f
-unfolding end_found if_free end_free when
+end_more : (xs : List Share) (x : Share) (s : ℕ) (end : Option ℕ) (f : Found) → found_of end ≡ end_free xs s f → found_of (if_free x.timeline x.units s end) ≡ end_free (xs ++ (x ∷ [])) s f
+unfolding if_free end_free when
 end_more xs x s (Some e) nothing h = absurd (not_at e (sym h))
 end_more xs x s None nothing h = refl
 end_more xs x s (Some e) (at d) h = go (all_free xs s d) (free_on x.timeline x.units s e) refl refl h
   where
-    go : (q p : Bool) → all_free xs s d ≡ q → free_on x.timeline x.units s e ≡ p → at e ≡ cond q (at d) nothing → end_found (then_some p e) ≡ cond (all_free (xs ++ (x ∷ [])) s d) (at d) nothing
+    go : (q p : Bool) → all_free xs s d ≡ q → free_on x.timeline x.units s e ≡ p → at e ≡ cond q (at d) nothing → found_of (then_some p e) ≡ cond (all_free (xs ++ (x ∷ [])) s d) (at d) nothing
     go false p k m j = absurd (not_at e (sym j))
     go true p k m j =
         let z : e ≡ d = ap when j in
         let w = free_more xs x s d ∙ rw (k, ← z, m) refl in
         ends p w z
       where
-        ends : (p : Bool) → all_free (xs ++ (x ∷ [])) s d ≡ p → e ≡ d → end_found (then_some p e) ≡ cond (all_free (xs ++ (x ∷ [])) s d) (at d) nothing
+        ends : (p : Bool) → all_free (xs ++ (x ∷ [])) s d ≡ p → e ≡ d → found_of (then_some p e) ≡ cond (all_free (xs ++ (x ∷ [])) s d) (at d) nothing
         ends true w z = rw (w, z) refl
         ends false w z = rw w refl
 end_more xs x s None (at d) h = go (all_free xs s d) refl h
@@ -85,7 +85,7 @@ module _ (xs : List Share) (n work from : ℕ) (stops : List ℕ) where
 
   -- the first i are asked at `here`
   pub record Tried (here : ℕ) (end : Option ℕ) (next i : ℕ) : Type 0 where
-    pub ends : end_found end ≡ end_free (take i xs) here (end-from here)
+    pub ends : found_of end ≡ end_free (take i xs) here (end-from here)
     pub later : here < next
     pub listed : (next ≡ 2 ^ 63) ⊎ (among next stops ≡ true)
     pub most : next ≤ 2 ^ 63
@@ -133,7 +133,7 @@ module _ (xs : List Share) (n work from : ℕ) (stops : List ℕ) where
 
     module _ (edges : List ℕ) (len here : ℕ) (w : Walks edges len here) (l : here < 2 ^ 63) where
       -- an instant to try, with no diary asked
-      pub tried-none : (end : Option ℕ) → end_found end ≡ work_end (before edges len) (laid edges len) here work → Tried here end (2 ^ 63) 0
+      pub tried-none : (end : Option ℕ) → found_of end ≡ work_end (before edges len) (laid edges len) here work → Tried here end (2 ^ 63) 0
       tried-none end e = record {
         ends = e ∙ layout-end (map calendar_of xs) (λ p. leb from p && joint (map calendar_of xs) p) edges len here work w.layout (λ p h. rw (le-leb from p (omega (arith, w.sought.low))) refl) ∙ end-none-asked here (end-from here);
         later = l;
@@ -166,21 +166,19 @@ module _ (xs : List Share) (n work from : ℕ) (stops : List ℕ) where
               rw z t.listed
 
       module _ (end : Option ℕ) (next : ℕ) (t : Tried here end next n) where
-        ends-all : end_found end ≡ end_free xs here (end-from here)
+        ends-all : found_of end ≡ end_free xs here (end-from here)
         ends-all = t.ends ∙ ap (λ (ys : List Share). end_free ys here (end-from here)) (take_all n xs (omega (arith, long)))
 
         -- all are free: the least start
         pub walks-found : (e : ℕ) → end ≡ Some e → Least xs work from here e
-        unfolding end_found
-        walks-found e z = found xs sound work from here e w.sought (sym ends-all ∙ ap end_found z)
+        walks-found e z = found xs sound work from here e w.sought (sym ends-all ∙ ap found_of z)
 
         -- one is not: the search goes on at the next instant
         pub walks-on : end ≡ None → Walks edges len next
-        unfolding end_found
         walks-on z = record {
           short = w.short;
           layout = w.layout;
-          sought = onward xs sound work from here next w.sought (sym ends-all ∙ ap end_found z) t.later (λ y a b. subst (Calm (suc y)) (take_all n xs (omega (arith, long))) (t.calm y a b));
+          sought = onward xs sound work from here next w.sought (sym ends-all ∙ ap found_of z) t.later (λ y a b. subst (Calm (suc y)) (take_all n xs (omega (arith, long))) (t.calm y a b));
           most = t.most;
         }
 

@@ -1,7 +1,6 @@
 -- What is kept of an instant that is tried: the joint end of the work from it.
 use Rattle.std.specs.Prelude.{ℕ, Option, Some, None}
 use Rattle.std.specs.Bool.{then_some}
-use Rattle.calendar.specs.Search.{Found, nothing, at}
 use Rattle.timeline.specs.declared.ResourceTimeline.{ResourceTimeline}
 use Rattle.timeline.specs.Earliest.{free_on}
 
@@ -9,8 +8,3 @@ use Rattle.timeline.specs.Earliest.{free_on}
 unfoldable pub if_free : ResourceTimeline → ℕ → ℕ → Option ℕ → Option ℕ
 if_free t units s (Some e) = then_some (free_on t units s e) e
 if_free t units s None = None
-
--- an end in 01's words
-unfoldable pub end_found : Option ℕ → Found
-end_found (Some e) = at e
-end_found None = nothing

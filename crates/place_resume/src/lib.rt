@@ -15,7 +15,6 @@ ghost use Rattle.place_resume.specs.Trials.{if_free};
 use board::Board;
 use calendar::Calendar;
 use calendar::limits::NEVER;
-use calendar_work::WorkEnd;
 use place_entries::Entries;
 use place_fit::diary_at;
 use timeline::ResourceTimeline;
@@ -51,10 +50,7 @@ pub fn fit_resumable(
     let mut at = from;
     // A `while`: the next instant to try is the first event after this one, on whichever diary.
     while at < NEVER {
-        let mut end = match calendar_work::work_end(&joint.edges, joint.len, at, work) {
-            WorkEnd::At(x) => Some(x),
-            WorkEnd::Nothing => None,
-        };
+        let mut end = calendar_work::work_end(&joint.edges, joint.len, at, work);
         let mut next = NEVER;
         for i in 0..e.count + 1 {
             let (d, units) = diary_at(&b, &e, places, &first, i);

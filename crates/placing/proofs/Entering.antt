@@ -3,7 +3,6 @@ use Rattle.std.specs.Prelude.{◌≡◌, ℕ, ◌<◌, ◌≤◌, true, List, []
 use mathlib.Core.Path.{sym, subst}
 use native.Mathlib.Omega.{arith}
 use lib.Seq.{get_or-take, length-take-le}
-use Rattle.calendar.specs.Search.{at}
 use Rattle.activity.specs.declared.ResourceRequirement.{ResourceRequirement}
 use Rattle.activity.specs.declared.Activity.{Activity}
 use Rattle.activity.specs.Check.{requirements_of, activity_refusal}
@@ -59,3 +58,13 @@ module _ (b : Board) (v : valid b ≡ true) (a : Activity) (ready t : ℕ) (lawf
 
     pub entered : EntriesOn b es n
     entered = record { few = l; long = long; each = λ k i. (on k i, units k i) }
+
+-- the first n of those held stand on the board by themselves
+pub front-places : (b : Board) (hs : List Selection) (n : ℕ) → n ≤ length hs → OnPlaces b hs n → OnPlaces b (take n hs) (length (take n hs))
+front-places b hs n l o = record { stands = λ k m. rw (same k m) (o.stands k (less k m)); some = λ k m. rw (same k m) (o.some k (less k m)) }
+  where
+    less : (k : ℕ) → k < length (take n hs) → k < n
+    less k m = omega (arith, length-take-le n hs l)
+
+    same : (k : ℕ) → k < length (take n hs) → get_or (take n hs) k no_selection ≡ get_or hs k no_selection
+    same k m = get_or-take n hs k no_selection (less k m)

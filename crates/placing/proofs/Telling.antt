@@ -18,7 +18,7 @@ use Rattle.scheduler.specs.Placing.{Reply, chosen_none, started, fitted, place_r
 use Rattle.scheduler.specs.Rows.{Row, row_of}
 use Rattle.place_fit.specs.Closing.{with_end, closing}
 use Rattle.placing.specs.Told.{placed_of, told}
-use Rattle.placing.specs.declared.PlaceReply.TheVariants as reply
+use Rattle.placing.specs.Answers as reply
 
 -- a start and its end as a reply
 unfoldable reply_from : ℕ → List Entry → asking.AskReply → Reply

@@ -1,18 +1,22 @@
 // Placing an order on a board (`place_activity` in scheduler/simple.rs; 01, 'Placing' and its replies).
 #![tactic(auto)]
 
-ghost use Rattle.std.specs.Prelude.{◌≡◌, ◌≤◌, ◌++◌, map, length, drop};
+ghost use Rattle.std.specs.Prelude.{◌≡◌, ◌≤◌, ◌++◌, map, length, drop, true};
+ghost use Rattle.activity.specs.Check.{activity_refusal};
 ghost use Rattle.board.specs.declared.Board as declared;
+ghost use Rattle.board.specs.Places.{Known};
 ghost use Rattle.board.specs.Valid.{valid};
+ghost use Rattle.calendar.specs.Replies.{refused};
 ghost use Rattle.scheduler.specs.Placing.{slate_after, place_refusal, place_reply};
 ghost use Rattle.scheduler.specs.Rows.{row_of};
-ghost use Rattle.place_entries.specs.Cells.{first_entries};
-ghost use Rattle.placing.specs.Told.{told};
+ghost use Rattle.placing.specs.Sought.{Sought};
+ghost use Rattle.placing.specs.Told.{told, answer_of};
 
 use activity::Activity;
 use board::Board;
-use place_entries::Entries;
-use place_fit::Fit;
+use calendar::Refusal;
+use place_entries::Spanned;
+use scheduler::Entry;
 use scheduler::rows::Row;
 
 // The numbers of a placement: the choosing instant, the start and the end, and how many entries stand at the front of the slate.
@@ -24,90 +28,86 @@ pub struct Placed {
     pub count: usize,
 }
 
-// What placing answers: a placement, 'chosen, none' with the choosing instant, none, or a refusal.
+// What placing answers where it does not refuse: a placement, 'chosen, none' with the choosing instant, or none.
 #[derive(Clone, Copy)]
 pub enum PlaceReply {
     Placed(Placed),
     ChosenNone(u64),
     None,
-    Refused(u8),
 }
 
 // Writes the entries at the front of the slate.
-fn write(slate: &mut [Row], e: Entries)
-    requires { (e.count ≤ 24) × (24 ≤ length slate.old) }
-    ensures { slate.new ≡ map row_of (first_entries e) ++ drop e.count slate.old }
+fn write(slate: &mut [Row], entries: &[Entry])
+    requires { length entries.now ≤ length slate.old }
+    ensures { slate.new ≡ map row_of entries.now ++ drop (length entries.now) slate.old }
 {
-    let n = e.count;
-    let mut i: usize = 0;
-    while i < n {
-        let x = e.entries[i];
-        let row = scheduler::rows::row_of(x);
-        slate[i] = row;
-        i += 1;
+    for (i, e) in entries.iter().enumerate() {
+        slate[i] = scheduler::rows::row_of(*e);
     }
 }
 
-// The refusal of a placing, 0 for none, the board being right or not.
-fn place_refusal(right: bool, a: Activity, ready: u64, slate: usize) -> u8
-    ensures { (b : declared.Board) → right ≡ valid b → result ≡ place_refusal b a ready slate }
+// Refuses a placing on a board that keeps the rules: an own calendar that breaks them, a slate under 24 entries, then the order.
+#[tactic(auto, unfolding(scheduler::specs::Placing::place_refusal))]
+fn check(a: Activity, ready: u64, slate: usize) -> Result<(), Refusal>
+    ensures { (b : declared.Board) → valid b ≡ true → refused result ≡ place_refusal b a ready slate }
 {
-    if !right {
-        return 15;
-    }
-    let own = a.calendar;
-    if !calendar::is_valid(own) {
-        return 15;
+    if !calendar::is_valid(a.calendar) {
+        return Err(Refusal::Invalid);
     }
     if slate < 24 {
-        return 7;
+        return Err(Refusal::Slate);
     }
     activity_checks::refusal(a, ready)
 }
 
-// Places the order from ready on, and writes the entries of a placement at the front of the slate; or refuses: 15 a board or an own
-// calendar that breaks the rules, 7 a slate under 24 entries, then the order's refusals.
-pub fn place_activity(b: Board, a: Activity, ready: u64, slate: &mut [Row]) -> PlaceReply
-    ensures value { result ≡ told (place_reply b a ready (length slate.old)) }
+// From when on a fit is sought, and for which entries and what span: those of the choice, none where there is none. An order without
+// requirements has no entries, and is fitted from ready on.
+fn sought(b: Board, a: Activity, ready: u64, places: &[usize; 16]) -> Option<(u64, Spanned)>
+    requires { (valid b ≡ true) × (activity_refusal a ready ≡ 0) × Known b places.now }
+    ensures { Sought b a ready result }
+{
+    if a.len == 0 {
+        let span = a.duration.setup + a.duration.process + a.duration.teardown;
+        let entries = place_entries::no_entries();
+        return Some((ready, Spanned { entries, span }));
+    }
+    let c = place_choice::choose(b, a, ready, places)?;
+    let x = place_entries::entries_of(&c.plans, a, &c.held.cells[..c.held.count]);
+    Some((c.instant, x))
+}
+
+// Places the order from ready on, and writes the entries of a placement at the front of the slate; or refuses: a board or an own calendar
+// that breaks the rules, a slate under 24 entries, then the order.
+pub fn place_activity(
+    b: Board,
+    a: Activity,
+    ready: u64,
+    slate: &mut [Row],
+) -> Result<PlaceReply, Refusal>
+    ensures value { answer_of result ≡ told (place_reply b a ready (length slate.old)) }
     ensures slate_after { slate.new ≡ slate_after (place_reply b a ready (length slate.old)) slate.old }
 {
-    let p = board_rules::places_of(b);
-    let refusal = place_refusal(p.right, a, ready, slate.len());
-    if refusal != 0 {
-        return PlaceReply::Refused(refusal);
-    }
-    let places = p.places;
-    let release = a.release;
-    let mut t = activity::basics::ready_of(release, ready);
-    let mut span = a.duration.setup + a.duration.process + a.duration.teardown;
-    let mut e = place_entries::no_entries();
-    if a.len != 0 {
-        let c = place_choice::choose(b, a, t, places);
-        if !c.chosen {
-            return PlaceReply::None;
-        }
-        let held = c.held;
-        let plans = c.plans;
-        let x = place_entries::entries_of(plans, a, held, c.count);
-        t = c.instant;
-        span = x.span;
-        e = x.entries;
-    }
-    let f = if a.resumable {
-        place_resume::fit_resumable(b, e, places, a.calendar, span, t)
-    } else {
-        place_fit::fit_unbroken(b, e, places, a.calendar, span, t)
+    let Some(p) = board_rules::places_of(b) else {
+        return Err(Refusal::Invalid);
     };
-    match f {
-        Fit::At(s, end) => {
-            write(slate, e);
-            PlaceReply::Placed(Placed {
-                choosing: t,
-                start: s,
-                end: end,
-                count: e.count,
-            })
-        }
-        Fit::Nothing => PlaceReply::ChosenNone(t),
-    }
+    check(a, ready, slate.len())?;
+    let from = activity::basics::ready_of(a.release, ready);
+    let Some((t, x)) = sought(b, a, from, &p.places) else {
+        return Ok(PlaceReply::None);
+    };
+    let f = if a.resumable {
+        place_resume::fit_resumable(b, x.entries, &p.places, a.calendar, x.span, t)
+    } else {
+        place_fit::fit_unbroken(b, x.entries, &p.places, a.calendar, x.span, t)
+    };
+    let Some((start, end)) = f else {
+        return Ok(PlaceReply::ChosenNone(t));
+    };
+    write(slate, &x.entries.entries[..x.entries.count]);
+    Ok(PlaceReply::Placed(Placed {
+        choosing: t,
+        start,
+        end,
+        count: x.entries.count,
+    }))
 }

@@ -81,7 +81,6 @@ answered-g-requires c =
 
 -- what the one that was asked has answered
 told : (c : goal.After-answered-g) (ready : ℕ) → Seeks c.args.b.now c.args.a.now ready c.args.p.now c.args.i c.args.j c.args.t → Told c.args.b.now c.args.a.now ready c.args.i c.args.t (requirement_at c.args.a.now c.args.j) c.loop-g.g c.answered-g.result
-unfolding start_of
 told c ready s =
     let k = c.requires.0 in
     let n = next-of c.args.b.now c.args.a.now ready c.args.p.now c.args.i c.args.j c.args.t c.loop-g.g s (search rules) (search rules) (c.loop-g.invariant.on ready s c.loop-g-test.true) in

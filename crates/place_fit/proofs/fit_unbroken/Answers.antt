@@ -6,7 +6,6 @@ use Rattle.timeline.specs.Valid as timeline
 use Rattle.timeline.specs.Earliest.{earliest_fit}
 use Rattle.timeline.specs.Ask as asking
 use Rattle.timeline.specs.Ask.{unbroken}
-use Rattle.timeline_fit.specs.Steps.{start_of}
 use Rattle.scheduler.specs.Alone.{Share, earliest_of}
 use Rattle.scheduler.specs.Fitting.{fitting, end_of}
 use Rattle.scheduler.specs.Shares.{start_on, own_share}
@@ -40,8 +39,8 @@ loop-i-init c =
 pub diary_at-units-requires : goal.diary_at-units-requires
 diary_at-units-requires c = (c.loop-i.invariant.asks, omega (arith, c.loop-i-test.true))
 
-pub earliest_fit-s-requires : goal.earliest_fit-s-requires
-earliest_fit-s-requires c =
+pub earliest_fit-requires : goal.earliest_fit-requires
+earliest_fit-requires c =
     let a = c.args in
     let b = a.b in
     let k = c.loop-i in
@@ -57,7 +56,6 @@ earliest_fit-s-requires c =
     }
 
 pub loop-i-smaller : goal.loop-i-smaller
-unfolding start_of
 loop-i-smaller c =
     let a = c.args in
     let b = a.b in
@@ -71,13 +69,12 @@ loop-i-smaller c =
     let xs = those b es n first in
     let m : k.i < length xs = omega (arith, l, asks-long b es n first places v.asks) in
     let w = asks-sound b es n first places v.asks in
-    let s = c.in-At in
-    let e = start-read _ _ k.t a.span _ c.diary_at-units.ensures _ (sym c.earliest_fit-s.ensures ∙ ap start_of s.is) in
+    let s = c.in_ok-x in
+    let e = start-read _ _ k.t a.span _ c.diary_at-units.ensures _ (sym s.ensures) in
     let x = asked-listed false a.span xs a.from k.t k.i w v.asked m s.x e in
     rw c.next_asked-i.ensures (asked-less (instants b es n first) (n + 1) k.t k.t k.i s.x (omega (arith, v.asks.entries.few)) l (omega arith) x.0 (listed-among xs k.i k.t s.x x.1))
 
 pub loop-i-preserved : goal.loop-i-preserved
-unfolding start_of
 loop-i-preserved c =
     let a = c.args in
     let b = a.b in
@@ -91,13 +88,13 @@ loop-i-preserved c =
     let xs = those b es n first in
     let m : k.i < length xs = omega (arith, l, asks-long b es n first places v.asks) in
     let w = asks-sound b es n first places v.asks in
-    let s = c.in-At in
-    let e = start-read _ _ k.t a.span _ c.diary_at-units.ensures _ (sym c.earliest_fit-s.ensures ∙ ap start_of s.is) in
+    let s = c.in_ok-x in
+    let e = start-read _ _ k.t a.span _ c.diary_at-units.ensures _ (sym s.ensures) in
     record { asks = v.asks; asked = rw c.next_asked-i.ensures (asked-on false a.span xs a.from k.t k.i w v.asked m s.x e) }
 
-pub returns-in-Nothing : goal.returns-in-Nothing
-unfolding start_of fit_of unbroken
-returns-in-Nothing c =
+pub returns-in_err-x : goal.returns-in_err-x
+unfolding fit_of unbroken
+returns-in_err-x c =
     let a = c.args in
     let b = a.b in
     let k = c.loop-i in
@@ -110,8 +107,9 @@ returns-in-Nothing c =
     let xs = those b es n first in
     let m : k.i < length xs = omega (arith, l, asks-long b es n first places v.asks) in
     let w = asks-sound b es n first places v.asks in
-    let e = start-read _ _ k.t a.span _ c.diary_at-units.ensures _ (sym c.earliest_fit-s.ensures ∙ ap start_of c.in-Nothing.is) in
-    answered a.span a.from _ a.own first c.own_timeline-first.ensures nothing (asked-none false a.span xs a.from k.t k.i w v.asked m e)
+    let e = start-read _ _ k.t a.span _ c.diary_at-units.ensures _ (sym c.in_err-x.ensures) in
+    rw c.from_residual.ensures
+    (answered a.span a.from _ a.own first c.own_timeline-first.ensures nothing (asked-none false a.span xs a.from k.t k.i w v.asked m e))
 
 pub overflow_add-result : goal.overflow_add-result
 overflow_add-result c = record { fits = omega (arith, c.loop-i.invariant.asked.range, c.requires.5) }

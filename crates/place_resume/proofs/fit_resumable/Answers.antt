@@ -1,7 +1,6 @@
 use Rattle.std.proofs.Common.{◌≡◌, ℕ, ◌+◌, ◌≤◌, true, List, ◌∷◌, refl, sym, ap, ◌∙◌, subst, arith}
 use Rattle.calendar.specs.declared.Calendar.{Calendar}
 use Rattle.calendar.specs.Search.{nothing}
-use Rattle.calendar_work.specs.Layout.{found_of}
 use Rattle.timeline.specs.declared.ResourceTimeline.{ResourceTimeline}
 use Rattle.timeline.specs.Ask as asking
 use Rattle.timeline.specs.Diary.{diary}
@@ -14,11 +13,9 @@ use Rattle.place_fit.specs.Closing.{with_end, closing, fit_of}
 use Rattle.timeline_candidates.specs.Steps.{Event}
 use Rattle.place_fit.specs.Asks.{those, share}
 use Rattle.place_fit.proofs.Reading.{instants, asks-own, asks-long, asks-sound, asks-kept}
-use Rattle.place_resume.specs.Trials.{end_found}
 use Rattle.place_resume.proofs.Resuming.{Least}
 use Rattle.place_resume.proofs.Walking.{gathers-next, gathers-ruled, walks-begin, walks-found, walks-on, walks-over, tried-none, tried-next, remaining-falls, event-stop}
 use Rattle.place_resume.proofs.fit_resumable.Goals as goal
-use Rattle.place_resume.proofs.fit_resumable.Goals.{in-At, in-Nothing}
 
 module _ (work from : ℕ) (xs : List Share) (own : Calendar) (first : ResourceTimeline) (e : first ≡ (own_share own).timeline) where
   answered : (x end : ℕ) → Least (share first 1 ∷ xs) work from x end → asking.fit x end ≡ closing true xs own work from
@@ -80,7 +77,6 @@ loop-at-init c =
     record { asks = v.asks; walks = walks-begin xs (n + 1) a.work a.from stops (asks-sound b es n first places v.asks) (asks-long b es n first places v.asks) c.loop-i.cs _ _ (rw z at v.gathers) (omega (arith, v.asks.entries.few)) (omega (arith, c.requires.4)) y.0 y.1 }
 
 pub loop-i-2-init : goal.loop-i-2-init
-unfolding end_found found_of
 loop-i-2-init c =
     let a = c.args in
     let b = a.b in
@@ -91,9 +87,7 @@ loop-i-2-init c =
     let xs = those b es n first in
     let stops = instants b es n first in
     let v = c.loop-at.invariant in
-    let e : end_found c.match-work_end.end ≡ found_of c.work_end.result =
-    elim c.match-work_end.branch [ in-At w ↦ rw (w.end-is, w.in-At.is) refl | in-Nothing w ↦ rw (w.end-is, w.in-Nothing.is) refl ] in
-    record { asks = v.asks; tried = tried-none xs (n + 1) a.work a.from stops (asks-sound b es n first places v.asks) (asks-long b es n first places v.asks) _ _ _ v.walks c.loop-at-test.true _ (e ∙ c.work_end.ensures) }
+    record { asks = v.asks; tried = tried-none xs (n + 1) a.work a.from stops (asks-sound b es n first places v.asks) (asks-long b es n first places v.asks) _ _ _ v.walks c.loop-at-test.true _ c.work_end-end.ensures }
 
 pub free_too-end-requires : goal.free_too-end-requires
 free_too-end-requires c =

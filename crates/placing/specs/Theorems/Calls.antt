@@ -1,5 +1,5 @@
 -- Demand 3 for two calls of `place_activity`: what they answer, and what stands on their slates afterwards.
-use Rattle.std.specs.Prelude.{◌≡◌, ℕ, ◌≤◌, Bool, true, false, ltb, List, map, length, take, drop, nat_lt}
+use Rattle.std.specs.Prelude.{◌≡◌, ℕ, ◌≤◌, Bool, true, false, ltb, List, map, length, take, drop, nat_lt, Result, Ok, Err}
 use Rattle.std.specs.Prelude.{refl}
 use Rattle.std.proofs.Common.{sym, ◌∙◌, subst}
 use Rattle.std.proofs.Math.Path.{ap}
@@ -19,12 +19,15 @@ use Rattle.scheduler.specs.Theorems.Demand3.{Demand3}
 use Rattle.scheduler.proofs.Theorems.Demand3.{demand-3}
 use Rattle.placing.specs.declared.Placed.{Placed}
 use Rattle.placing.specs.declared.PlaceReply.{PlaceReply}
-use Rattle.placing.specs.declared.PlaceReply.TheVariants as reply
-use Rattle.placing.specs.Told.{placed_of, told, instant_of, refused_by}
+use Rattle.placing.specs.declared.PlaceReply.TheVariants as code
+use Rattle.placing.specs.Answers as reply
+use Rattle.placing.specs.Answers.{Answer}
+use Rattle.calendar.specs.declared.refusal.Refusal.{Refusal}
+use Rattle.placing.specs.Told.{placed_of, told, answer_of, instant_of, refused_by}
 
 -- a call on a board with an order, from ready on, over a slate: its answer and the slate afterwards (the contract of `place_activity`)
-pub record Called (b : Board) (a : Activity) (ready : ℕ) (slate : List Row) (r : PlaceReply) (after : List Row) : Type 0 where
-  pub reply : r ≡ told (place_reply b a ready (length slate))
+pub record Called (b : Board) (a : Activity) (ready : ℕ) (slate : List Row) (r : Result PlaceReply Refusal) (after : List Row) : Type 0 where
+  pub reply : answer_of r ≡ told (place_reply b a ready (length slate))
   pub rows : after ≡ slate_after (place_reply b a ready (length slate)) slate
 
 -- no extra is on the resource of a row
@@ -32,15 +35,15 @@ abbrev pub RowSpared : Board → Board → Row → Type 0
 RowSpared b c row = NoExtra b c (number_in row)
 
 -- The first call's answer r and slate `after`, the second's q and `later`, on a board with extra bookings.
-pub record Calls (b c : Board) (r : PlaceReply) (after : List Row) (q : PlaceReply) (later : List Row) : Type 0 where
+pub record Calls (b c : Board) (r : Result PlaceReply Refusal) (after : List Row) (q : Result PlaceReply Refusal) (later : List Row) : Type 0 where
   -- where the first gives a placement and no extra is on a resource it reports, the second answers the same ..
-  pub same-placement : (p : Placed) → r ≡ reply.Placed p → Each (RowSpared b c) (take p.count after) → q ≡ reply.Placed p
+  pub same-placement : (p : Placed) → r ≡ Ok (code.Placed p) → Each (RowSpared b c) (take p.count after) → q ≡ Ok (code.Placed p)
   -- .. with the same rows
-  pub same_rows : (p : Placed) → r ≡ reply.Placed p → Each (RowSpared b c) (take p.count after) → take p.count later ≡ take p.count after
+  pub same_rows : (p : Placed) → r ≡ Ok (code.Placed p) → Each (RowSpared b c) (take p.count after) → take p.count later ≡ take p.count after
   -- wherever the extras are, the second tells a choosing instant only if the first does, and never an earlier one
-  pub never-earlier : (u : ℕ) → instant_of q ≡ at u → (t : ℕ) × (instant_of r ≡ at t) × (t ≤ u)
+  pub never-earlier : (u : ℕ) → instant_of (answer_of q) ≡ at u → (t : ℕ) × (instant_of (answer_of r) ≡ at t) × (t ≤ u)
   -- the second refuses exactly when the first does, with the same number
-  pub same-refusal : refused_by r ≡ refused_by q
+  pub same-refusal : refused_by (answer_of r) ≡ refused_by (answer_of q)
 
 told-instant : (x : Reply) → instant_of (told x) ≡ choosing_instant x
 unfolding instant_of told placed_of choosing_instant
@@ -56,14 +59,14 @@ told-refusal (chosen_none t) = refl
 told-refusal none = refl
 told-refusal (refused n) = refl
 
-is_placed : PlaceReply → Bool
+is_placed : Answer → Bool
 is_placed (reply.Placed p) = true
 is_placed (reply.ChosenNone t) = false
 is_placed reply.None = false
 is_placed (reply.Refused n) = false
 
 -- the placement in an answer, else p
-placed_in : Placed → PlaceReply → Placed
+placed_in : Placed → Answer → Placed
 placed_in p (reply.Placed q) = q
 placed_in p (reply.ChosenNone t) = p
 placed_in p reply.None = p
@@ -77,15 +80,27 @@ told-placed (chosen_none u) p h = absurd (not-both true refl (sym (ap is_placed 
 told-placed none p h = absurd (not-both true refl (sym (ap is_placed h)))
 told-placed (refused m) p h = absurd (not-both true refl (sym (ap is_placed h)))
 
+-- and one answered is a placement
+answer-placed : (x : Result PlaceReply Refusal) (p : Placed) → answer_of x ≡ reply.Placed p → x ≡ Ok (code.Placed p)
+unfolding answer_of is_placed placed_in
+answer-placed (Ok (code.Placed q)) p h = ap (λ (y : Placed). Ok (code.Placed y)) (ap (placed_in p) h)
+answer-placed (Ok (code.ChosenNone t)) p h = absurd (not-both true refl (sym (ap is_placed h)))
+answer-placed (Ok code.None) p h = absurd (not-both true refl (sym (ap is_placed h)))
+answer-placed (Err e) p h = absurd (not-both true refl (sym (ap is_placed h)))
+
+placed-answer : (p : Placed) → answer_of (Ok (code.Placed p)) ≡ reply.Placed p
+unfolding answer_of
+placed-answer p = refl
+
 module _ (b c : Board) (k : Alike b c) (a : Activity) (ready : ℕ) (slate other : List Row)
     (both : ltb (length slate) 24 ≡ nat_lt (length other) 24)
-    (r q : PlaceReply) (after later : List Row) (first : Called b a ready slate r after) (second : Called c a ready other q later) where
+    (r q : Result PlaceReply Refusal) (after later : List Row) (first : Called b a ready slate r after) (second : Called c a ready other q later) where
   theorem : Demand3 b c a ready slate other
   theorem = demand-3 b c k a ready slate other both
 
-  module _ (p : Placed) (h : r ≡ reply.Placed p) (z : Each (RowSpared b c) (take p.count after)) where
+  module _ (p : Placed) (h : r ≡ Ok (code.Placed p)) (z : Each (RowSpared b c) (take p.count after)) where
     known : (m : Placement) × (place_reply b a ready (length slate) ≡ placed m) × (placed_of m ≡ p)
-    known = told-placed (place_reply b a ready (length slate)) p (sym first.reply ∙ h)
+    known = told-placed (place_reply b a ready (length slate)) p (sym first.reply ∙ ap answer_of h ∙ placed-answer p)
 
     abbrev es : List Entry
     es = known.0.entries
@@ -104,9 +119,9 @@ module _ (b c : Board) (k : Alike b c) (a : Activity) (ready : ℕ) (slate other
     unfolding row_of
     free = each-of-map (RowSpared b c) row_of es (subst (Each (RowSpared b c)) written z)
 
-    placement : q ≡ reply.Placed p
+    placement : q ≡ Ok (code.Placed p)
     unfolding told
-    placement = second.reply ∙ ap told (theorem.same-placement known.0 known.1 free) ∙ ap reply.Placed known.2
+    placement = answer-placed q p (second.reply ∙ ap told (theorem.same-placement known.0 known.1 free) ∙ ap reply.Placed known.2)
 
     rows : take p.count later ≡ take p.count after
     rows =
@@ -115,7 +130,7 @@ module _ (b c : Board) (k : Alike b c) (a : Activity) (ready : ℕ) (slate other
         counted (theorem.same_rows known.0 known.1 free)
         ∙ sym (ap (take p.count) first.rows)
 
-  earlier : (u : ℕ) → instant_of q ≡ at u → (t : ℕ) × (instant_of r ≡ at t) × (t ≤ u)
+  earlier : (u : ℕ) → instant_of (answer_of q) ≡ at u → (t : ℕ) × (instant_of (answer_of r) ≡ at t) × (t ≤ u)
   earlier u h =
       let w = theorem.never-earlier u (sym (told-instant (place_reply c a ready (length other))) ∙ sym (ap instant_of second.reply) ∙ h) in
       (w.0, ap instant_of first.reply ∙ told-instant (place_reply b a ready (length slate)) ∙ w.1, w.2)
