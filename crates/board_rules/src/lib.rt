@@ -16,11 +16,12 @@ ghost use Rattle.board.specs.Places.{Known, Lengths, FewBookings};
 pub struct Places {
     pub places: [usize; 16],
     pub lens: [u64; 16],
+    ghost few_bookings: { FewBookings lens },
 }
 
 // The places, where the board keeps the rules.
 pub fn places_of(b: Board) -> Option<Places>
-    ensures { MatchOption result (valid b ≡ false) (λ p. (valid b ≡ true) × Known b p.places × Lengths b p.lens × FewBookings p.lens) }
+    ensures { MatchOption result (valid b ≡ false) (λ p. (valid b ≡ true) × Known b p.places × Lengths b p.lens) }
 {
     if b.len > 16 {
         return None;

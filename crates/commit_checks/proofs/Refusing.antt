@@ -1,29 +1,25 @@
 -- The replies of a commitment, over plain values: each refusal in its order, and the board booked.
 use mathlib.Core.Path.{◌≡◌, refl, sym, ◌∙◌}
-use mathlib.Core.Bool.{Bool, true, false, not, cond}
+use mathlib.Core.Bool.{true, false, not, cond}
 use mathlib.Core.List.{List, []}
 use mathlib.Core.Logic.{⊎_elim}
 use Prim.Native.Nat.{ℕ, ◌^◌, ◌≤◌, ◌<◌}
 use native.Mathlib.Omega.{arith}
 use lib.ListN.{length}
 use lib.Dec.{ltb, eqb}
-use borrow.Author.Tests.{lt-leb, le-ltb, lt-ltb, le-leb, ltb-false, not-false, not-true, ne_eqb}
+use borrow.Author.Tests.{lt-leb, le-ltb, lt-ltb, le-leb, ltb-false, not-false, ne_eqb}
 use Rattle.cells.specs.Laws.Basics.{unrefused, same_or_not}
 use Rattle.cells.specs.Every.{every, Each}
 use Rattle.board.specs.declared.Board.{Board}
 use Rattle.board.specs.Replies.{Entered}
 use Rattle.board.specs.Valid as board
-use Rattle.board.specs.Laws.Replying.{refused-by, taken-by}
+use Rattle.calendar.specs.declared.refusal.Refusal.{Refusal}
+use Rattle.calendar.specs.Replies.{number_of}
+use Rattle.board.specs.Enter.{entered}
+use Rattle.board.specs.Laws.Replying.{refused_as, taken-by}
 use Rattle.scheduler.specs.Committing.{Line, lines_of, lines_refusal, commit_refusal, book_all, commit_reply, Bookable}
 use Rattle.scheduler.specs.Laws.Committed.{BookableLine, Room, all_on, all_metered, all_roomy, passed, room-passed, all-fine}
 use Rattle.scheduler.specs.Rows.{Row}
-
--- a check that the code made, and what it is a check of
-pub check-passed : (r p q : Bool) → r ≡ p → p ≡ q → r ≡ true → q ≡ true
-check-passed r p q e f h = sym f ∙ sym e ∙ h
-
-pub check-failed : (r p q : Bool) → r ≡ p → p ≡ q → r ≡ false → q ≡ false
-check-failed r p q e f h = sym f ∙ sym e ∙ h
 
 module _ (b : Board) (ls : List Line) (start end category : ℕ) where
   pub refused-off : all_on b ls ≡ false → 5 ≡ lines_refusal b ls start end category
@@ -100,10 +96,6 @@ module _ (k : Commitment) where
   refusal-rules v = rw v refl
 
   module _ (v : board.valid k.board ≡ true) where
-    pub refusal-none : k.count ≡ 0 → 0 ≡ commitment_refusal k
-    unfolding commit_refusal
-    refusal-none z = rw (v, z) refl
-
     module _ (some : eqb k.count 0 ≡ false) where
       pub refusal-count : length k.slate < k.count → 7 ≡ commitment_refusal k
       unfolding commit_refusal
@@ -145,10 +137,15 @@ module _ (k : Commitment) where
       (λ (h : k.count ≡ 0 → ⊥). fine-some v (rw (ne_eqb k.count 0 h) at x.1))
       (same_or_not 0 k.count)
 
-  pub reply-refused : (n : ℕ) → n ≡ commitment_refusal k → (n ≡ 0 → ⊥) → record { refusal = n; board = k.board } ≡ commitment_reply k
+  pub reply_refused : (e : Refusal) → number_of e ≡ commitment_refusal k → record { refusal = number_of e; board = k.board } ≡ commitment_reply k
   unfolding commit_reply
-  reply-refused n e h = refused-by n (commitment_refusal k) k.board (whole_of k) e h
+  reply_refused e q = refused_as e (commitment_refusal k) k.board (whole_of k) q
 
-  pub reply-taken : (after : Board) (n : ℕ) → n ≡ commitment_refusal k → n ≡ 0 → after ≡ whole_of k → record { refusal = 0; board = after } ≡ commitment_reply k
+  -- no entries
+  pub reply-none : board.valid k.board ≡ true → k.count ≡ 0 → record { refusal = 0; board = k.board } ≡ commitment_reply k
+  unfolding commit_reply commit_refusal book_all lines_of entered
+  reply-none v z = rw (v, z) refl
+
+  pub reply-taken : (after : Board) → 0 ≡ commitment_refusal k → after ≡ whole_of k → record { refusal = 0; board = after } ≡ commitment_reply k
   unfolding commit_reply
-  reply-taken after n e h z = rw z (taken-by (commitment_refusal k) k.board (whole_of k) (sym e ∙ h))
+  reply-taken after e z = rw z (taken-by (commitment_refusal k) k.board (whole_of k) (sym e))

@@ -1,28 +1,28 @@
 -- The checks of the rows of a slate, and what they say of its lines.
 use mathlib.Core.Path.{◌≡◌, refl, sym, ap, ◌∙◌, fun_ext}
-use mathlib.Core.Bool.{Bool, true, false, ◌&&◌, cond, and-false}
+use mathlib.Core.Bool.{Bool, true, false, ◌&&◌, cond}
 use mathlib.Core.List.{List, [], ◌∷◌, ◌++◌, map, map-append}
 use mathlib.Core.Logic.{⊎_elim}
 use Prim.Native.Nat.{ℕ, zero, suc, ◌+◌, ◌≤◌, ◌<◌}
 use native.Mathlib.Omega.{arith}
 use lib.ListN.{length, get_or, set, take, replicate, get_or-replicate}
 use lib.Dec.{leb, ltb, eqb}
-use lib.Seq.{get_or-set_same, get_or-set_other}
-use borrow.Author.Tests.{ltb-true, lt-ltb, le-ltb, lt-leb, le-leb, eq-eqb, ne_eqb}
+use lib.Seq.{take-length, get_or-set_same, get_or-set_other}
+use borrow.Author.Tests.{ltb-true, lt-ltb, lt-leb, le-leb, eq-eqb, ne_eqb}
 use Rattle.cells.specs.Laws.Basics.{and_split, same_or_not, both_ways, take_next}
 use Rattle.cells.specs.Every.{every}
-use Rattle.cells.specs.Laws.Every.{every_map, every-where}
+use Rattle.cells.specs.Laws.Every.{every_map, every-where, every_in}
 use Rattle.board.specs.declared.Board.{Board}
 use Rattle.calendar.specs.Search.{is_at}
 use Rattle.board.specs.Resources.{on_board}
 use Rattle.board.specs.Valid.{valid}
 use Rattle.board.specs.Laws.Facts.{rules_of}
 use Rattle.scheduler.specs.Alone.{diary_of}
-use Rattle.scheduler.specs.Rows.{Row, number_in, units_in}
+use Rattle.scheduler.specs.Rows.{Row, number_in}
 use Rattle.scheduler.specs.Committing.{Line, line_of, lines_of, entries_on}
 use Rattle.scheduler.specs.Laws.Ruled.{diary-at}
 use Rattle.board.specs.Laws.Knowing.{place-of, number-place}
-use Rattle.board.specs.Places.{Known, Lengths}
+use Rattle.board.specs.Places.{Known, Lengths, FewBookings}
 use Rattle.commit_checks.specs.Lines.{numbered, metered, roomy, Counted}
 
 -- the lines are the first rows, read one by one
@@ -30,20 +30,15 @@ lines_rows : (n : ℕ) (slate : List Row) → lines_of n slate ≡ map line_of (
 unfolding lines_of
 lines_rows n slate = refl
 
+lines_all : (rows : List Row) → lines_of (length rows) rows ≡ map line_of rows
+lines_all rows = lines_rows (length rows) rows ∙ ap (map line_of) (take-length rows)
+
 -- a number has a place, and the diary there holds at most 64 bookings
 abbrev pub HasPlace : List ℕ → List ℕ → ℕ → Type 0
 HasPlace places lens number = (number < 16) × (get_or places number 0 < 16) × (get_or lens (get_or places number 0) 0 ≤ 64)
 
 -- one row
 module _ (places : List ℕ) (row : Row) where
-  pub number-high : 16 ≤ number_in row → numbered places row ≡ false
-  unfolding numbered
-  number-high l = rw (le-ltb (number_in row) 16 l) refl
-
-  pub number-off : 16 ≤ get_or places (number_in row) 0 → numbered places row ≡ false
-  unfolding numbered
-  number-off l = rw (le-ltb (get_or places (number_in row) 0) 16 l) (and-false (ltb (number_in row) 16))
-
   pub number-on : number_in row < 16 → get_or places (number_in row) 0 < 16 → numbered places row ≡ true
   unfolding numbered
   number-on l m = rw (lt-ltb (number_in row) 16 l, lt-ltb (get_or places (number_in row) 0) 16 m) refl
@@ -54,18 +49,12 @@ module _ (places : List ℕ) (row : Row) where
       let w = and_split (ltb (number_in row) 16) (ltb (get_or places (number_in row) 0) 16) e in
       (ltb-true (number_in row) 16 w.0, ltb-true (get_or places (number_in row) 0) 16 w.1)
 
-module _ (row : Row) where
-  pub units-none : units_in row < 1 → metered row ≡ false
-  unfolding metered
-  units-none l = rw (lt-leb 1 (units_in row) l) refl
-
-  pub units-many : 10000 < units_in row → metered row ≡ false
-  unfolding metered
-  units-many l = rw (lt-leb (units_in row) 10000 l) (and-false (leb 1 (units_in row)))
-
-  pub units-fine : 1 ≤ units_in row → units_in row ≤ 10000 → metered row ≡ true
-  unfolding metered
-  units-fine l m = rw (le-leb 1 (units_in row) l, le-leb (units_in row) 10000 m) refl
+-- each of some rows whose numbers have a place names such a number
+pub row_place : (places lens : List ℕ) (rows : List Row) (i n : ℕ) → every (numbered places) rows ≡ true → FewBookings lens → i < length rows → n ≡ number_in (get_or rows i [])
+    → HasPlace places lens n
+row_place places lens rows i n e few l q =
+    let w = number_is places (get_or rows i []) (every_in (numbered places) rows i [] l e) in
+    rw q (w.0, w.1, few (get_or places (number_in (get_or rows i [])) 0) w.1)
 
 module _ (places lens tally : List ℕ) (row : Row) where
   pub room-short : 64 < get_or lens (get_or places (number_in row) 0) 0 + get_or tally (number_in row) 0 → roomy places lens tally row ≡ false
@@ -127,28 +116,30 @@ module _ (b : Board) (v : valid b ≡ true) (places : List ℕ) (known : Known b
       (λ e. let w = number_is places row e in ap is_at (place-of b v places known (number_in row) w.0 w.1))
       (λ o. let w = number-place b v places known (number_in row) o in number-on places row w.0 (omega (arith, w.2, (rules_of b v).few)))
 
-  pub numbers-lines : (n : ℕ) (slate : List Row) → every (numbered places) (take n slate) ≡ every (λ l. on_board b l.number) (lines_of n slate)
-  numbers-lines n slate =
-      ap (λ (T : List ℕ → Bool). every T (take n slate)) (fun_ext numbered_is)
-      ∙ sym (every_map (λ l. on_board b l.number) line_of (take n slate))
-      ∙ sym (ap (every (λ (l : Line). on_board b l.number)) (lines_rows n slate))
+  pub numbers-lines : (rows : List Row) → every (numbered places) rows ≡ every (λ l. on_board b l.number) (lines_of (length rows) rows)
+  numbers-lines rows =
+      ap (λ (T : List ℕ → Bool). every T rows) (fun_ext numbered_is)
+      ∙ sym (every_map (λ l. on_board b l.number) line_of rows)
+      ∙ sym (ap (every (λ (l : Line). on_board b l.number)) (lines_all rows))
 
-  module _ (lens tally : List ℕ) (n : ℕ) (slate : List Row) (long : Lengths b lens) (counted : Counted slate n tally) where
-    roomy-is : (row : Row) → numbered places row ≡ true → roomy places lens tally row ≡ leb ((diary_of b (line_of row).number).len + entries_on (line_of row).number (lines_of n slate)) 64
+  module _ (lens tally : List ℕ) (rows : List Row) (long : Lengths b lens) (counted : Counted rows (length rows) tally) where
+    abbrev ls : List Line
+    ls = lines_of (length rows) rows
+
+    roomy-is : (row : Row) → numbered places row ≡ true → roomy places lens tally row ≡ leb ((diary_of b (line_of row).number).len + entries_on (line_of row).number ls) 64
     unfolding roomy line_of
     roomy-is row e =
         let w = number-place b v places known (number_in row) (sym (numbered_is row) ∙ e) in
         rw (counted (number_in row) w.0, long (get_or places (number_in row) 0) w.2, diary-at b (number_in row) (get_or places (number_in row) 0) w.1) refl
 
-    pub room-lines : every (numbered places) (take n slate) ≡ true
-        → every (roomy places lens tally) (take n slate) ≡ every (λ l. leb ((diary_of b l.number).len + entries_on l.number (lines_of n slate)) 64) (lines_of n slate)
+    pub room-lines : every (numbered places) rows ≡ true → every (roomy places lens tally) rows ≡ every (λ l. leb ((diary_of b l.number).len + entries_on l.number ls) 64) ls
     room-lines e =
-        every-where (numbered places) (roomy places lens tally) (λ row. leb ((diary_of b (line_of row).number).len + entries_on (line_of row).number (lines_of n slate)) 64) (take n slate) roomy-is e
-        ∙ sym (every_map (λ l. leb ((diary_of b l.number).len + entries_on l.number (lines_of n slate)) 64) line_of (take n slate))
-        ∙ sym (ap (every (λ (l : Line). leb ((diary_of b l.number).len + entries_on l.number (lines_of n slate)) 64)) (lines_rows n slate))
+        every-where (numbered places) (roomy places lens tally) (λ row. leb ((diary_of b (line_of row).number).len + entries_on (line_of row).number ls) 64) rows roomy-is e
+        ∙ sym (every_map (λ l. leb ((diary_of b l.number).len + entries_on l.number ls) 64) line_of rows)
+        ∙ sym (ap (every (λ (l : Line). leb ((diary_of b l.number).len + entries_on l.number ls) 64)) (lines_all rows))
 
-pub units-lines : (n : ℕ) (slate : List Row) → every metered (take n slate) ≡ every (λ l. leb 1 l.units && leb l.units 10000) (lines_of n slate)
+pub units-lines : (rows : List Row) → every metered rows ≡ every (λ l. leb 1 l.units && leb l.units 10000) (lines_of (length rows) rows)
 unfolding metered line_of
-units-lines n slate =
-    sym (every_map (λ l. leb 1 l.units && leb l.units 10000) line_of (take n slate))
-    ∙ sym (ap (every (λ (l : Line). leb 1 l.units && leb l.units 10000)) (lines_rows n slate))
+units-lines rows =
+    sym (every_map (λ l. leb 1 l.units && leb l.units 10000) line_of rows)
+    ∙ sym (ap (every (λ (l : Line). leb 1 l.units && leb l.units 10000)) (lines_all rows))

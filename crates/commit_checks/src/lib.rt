@@ -1,131 +1,98 @@
 // The checks of a commitment's rows (01, 'Committing': 5, 1, 2, 3, 4), each over all of them before the next.
 #![tactic(auto)]
 
-ghost use Rattle.std.specs.Prelude.{◌≡◌, true, [], ℕ, ◌≤◌, ◌<◌, length, get_or, take};
+ghost use Rattle.std.specs.Prelude.{◌≡◌, true, [], ℕ, ◌<◌, length, get_or};
 ghost use Rattle.cells.specs.Every.{every};
-ghost use Rattle.board.specs.Places.{FewBookings};
+ghost use Rattle.calendar.specs.Replies.{refused};
 ghost use Rattle.scheduler.specs.Rows.{number_in};
 ghost use Rattle.scheduler.specs.Committing.{lines_of};
 ghost use Rattle.commit_checks.specs.Lines.{numbered, metered, roomy, Counted, RowsRefusal};
 
-use calendar::limits::LAST_INSTANT;
+use board_rules::Places;
+use calendar::Refusal;
+use calendar::limits::{LAST_INSTANT, MOST_UNITS};
 use scheduler::rows::{Row, number_in, units_in};
 
-// Each of the first `count` rows names a resource on the board.
-fn numbers_right(slate: &[Row], count: usize, places: [usize; 16]) -> bool
-    requires { count ≤ length slate.now }
-    ensures { result ≡ every (numbered places) (take count slate.now) }
+#[tactic(auto, unfolding(crate::specs::Lines::numbered))]
+fn is_numbered(row: Row, places: &[usize; 16]) -> bool
+    ensures { result ≡ numbered places.now row }
 {
-    let mut i: usize = 0;
-    while i < count {
-        let row = slate[i];
-        let number = number_in(row);
-        if number >= 16 {
-            return false;
-        }
-        if places[number as usize] >= 16 {
-            return false;
-        }
-        i += 1;
-    }
-    true
+    let number = number_in(row);
+    number < 16 && places[number as usize] < 16
+}
+
+// Each row names a resource on the board.
+fn numbers_right(rows: &[Row], places: &[usize; 16]) -> bool
+    ensures { result ≡ every (numbered places.now) rows.now }
+{
+    rows.iter().all(|row| is_numbered(*row, places))
+}
+
+#[tactic(auto, unfolding(crate::specs::Lines::metered))]
+fn is_metered(row: Row) -> bool
+    ensures { result ≡ metered row }
+{
+    (1..=MOST_UNITS as u64).contains(&units_in(row))
 }
 
 // Each of them wants 1 to 10,000 units.
-fn units_right(slate: &[Row], count: usize) -> bool
-    requires { count ≤ length slate.now }
-    ensures { result ≡ every metered (take count slate.now) }
+fn units_right(rows: &[Row]) -> bool
+    ensures { result ≡ every metered rows.now }
 {
-    let mut i: usize = 0;
-    while i < count {
-        let row = slate[i];
-        let units = units_in(row);
-        if units < 1 {
-            return false;
-        }
-        if units > 10000 {
-            return false;
-        }
-        i += 1;
-    }
-    true
+    rows.iter().all(|row| is_metered(*row))
 }
 
-// How many of the first `count` rows name each number.
-fn tally_of(slate: &[Row], count: usize) -> [u64; 16]
-    requires { (count ≤ length slate.now) × ((k : ℕ) → k < count → number_in (get_or slate.now k []) < 16) }
-    ensures { Counted slate.now count result }
+// How many of the rows name each number.
+fn tally_of(rows: &[Row]) -> [u64; 16]
+    requires { (k : ℕ) → k < length rows.now → number_in (get_or rows.now k []) < 16 }
+    ensures { Counted rows.now (length rows.now) result }
 {
-    let mut tally: [u64; 16] = [0; 16];
-    let mut i: usize = 0;
-    while i < count {
-        let row = slate[i];
-        let number = number_in(row) as usize;
-        tally[number] += 1;
-        i += 1;
+    let mut tally = [0; 16];
+    for row in rows {
+        tally[number_in(*row) as usize] += 1;
     }
     tally
 }
 
 // Each diary named has places for all its entries.
-fn room_right(
-    slate: &[Row],
-    count: usize,
-    places: [usize; 16],
-    lens: [u64; 16],
-    tally: [u64; 16],
-) -> bool
-    requires count_in_bounds { (count ≤ length slate.now) × (every (numbered places) (take count slate.now) ≡ true) }
-    requires few_bookings { FewBookings lens }
-    ensures { result ≡ every (roomy places lens tally) (take count slate.now) }
+fn room_right(rows: &[Row], p: &Places, tally: &[u64; 16]) -> bool
+    requires { every (numbered p.now.places) rows.now ≡ true }
+    ensures { result ≡ every (roomy p.now.places p.now.lens tally.now) rows.now }
 {
-    let mut i: usize = 0;
-    while i < count {
-        let row = slate[i];
-        let number = number_in(row) as usize;
-        let place = places[number];
-        if tally[number] > 64 - lens[place] {
+    for row in rows {
+        let number = number_in(*row) as usize;
+        let place = p.places[number];
+        if tally[number] > 64 - p.lens[place] {
             return false;
         }
-        i += 1;
     }
     true
 }
 
-// The refusal of some rows, 0 for none, on any board with these places and as many bookings in its diaries.
+// Refuses some rows, on any board with these places and as many bookings in its diaries.
 pub fn lines_refusal(
-    lens: [u64; 16],
-    places: [usize; 16],
-    slate: &[Row],
-    count: usize,
+    p: &Places,
+    rows: &[Row],
     start: u64,
     end: u64,
     category: u8,
-) -> u8
-    requires { (count ≤ length slate.now) × FewBookings lens }
-    ensures { RowsRefusal places lens (lines_of count slate.now) start end category result }
+) -> Result<(), Refusal>
+    ensures { RowsRefusal p.now.places p.now.lens (lines_of (length rows.now) rows.now) start end category (refused result) }
 {
-    if !numbers_right(slate, count, places) {
-        return 5;
+    if !numbers_right(rows, &p.places) || category > 15 {
+        return Err(Refusal::Number);
     }
-    if category > 15 {
-        return 5;
-    }
-    if start > LAST_INSTANT {
-        return 1;
-    }
-    if end > LAST_INSTANT {
-        return 1;
+    if start > LAST_INSTANT || end > LAST_INSTANT {
+        return Err(Refusal::OutOfRange);
     }
     if end <= start {
-        return 2;
+        return Err(Refusal::EmptySpan);
     }
-    if !units_right(slate, count) {
-        return 3;
+    if !units_right(rows) {
+        return Err(Refusal::Units);
     }
-    let tally = tally_of(slate, count);
-    if !room_right(slate, count, places, lens, tally) {
-        return 4;
+    if !room_right(rows, p, &tally_of(rows)) {
+        return Err(Refusal::Full);
     }
-    0
+    Ok(())
 }

@@ -1,13 +1,16 @@
 -- Booking the lines of a slate: what holds of the board and of the lines that are left, one line more.
-use Rattle.std.specs.Prelude.{Option, Some, None}
+use Rattle.std.specs.Prelude.{Option, Some, Result, Ok, Err}
+use Rattle.calendar.specs.declared.refusal.Refusal.{Refusal}
+use Rattle.calendar.specs.Laws.Refusals.{numbered}
+use Rattle.timeline.specs.Replies.{Booked, booked_of}
 use mathlib.Core.Path.{◌≡◌, refl, sym, ap, ◌∙◌, subst}
 use mathlib.Core.Bool.{Bool, true, false, cond}
-use mathlib.Core.List.{List, [], ◌∷◌}
+use mathlib.Core.List.{List, [], ◌∷◌, map}
 use Prim.Native.Nat.{ℕ, suc, ◌+◌, ◌-◌, ◌^◌, ◌≤◌, ◌<◌}
 use native.Mathlib.Omega.{arith}
-use lib.ListN.{length, get_or, drop}
+use lib.ListN.{length, get_or, drop, take}
 use lib.Dec.{leb, ltb, eqb}
-use lib.Seq.{drop-cons}
+use lib.Seq.{drop-cons, get_or-take, take-length}
 use borrow.Author.Tests.{lt-leb, le-ltb, eq-eqb}
 use Rattle.calendar.specs.Search.{at}
 use Rattle.timeline.specs.declared.ResourceTimeline.{ResourceTimeline}
@@ -32,8 +35,8 @@ use Rattle.board.specs.Laws.Knowing.{number-place}
 use Rattle.commit_checks.proofs.Refusing.{Commitment, whole_of, Fine}
 
 -- a booking that is not refused
-pub book-taken : (t : ResourceTimeline) (start end category u : ℕ) → timeline.valid t ≡ true → t.len < 64 → Bookable start end category → 1 ≤ u → u ≤ 10000
-    → (book_reply t start end u).timeline ≡ with_booking t start end u
+book-taken : (t : ResourceTimeline) (start end category u : ℕ) → timeline.valid t ≡ true → t.len < 64 → Bookable start end category → 1 ≤ u → u ≤ 10000
+    → book_reply t start end u ≡ record { refusal = 0; timeline = with_booking t start end u }
 unfolding book_reply book_refusal taken
 book-taken t start end category u v room w some few =
     let s : ltb (2 ^ 42) start ≡ false = le-ltb (2 ^ 42) start (omega (arith, w.order, w.range)) in
@@ -44,19 +47,32 @@ book-taken t start end category u v room w some few =
     let f : leb 64 t.len ≡ false = lt-leb 64 t.len room in
     rw (v, s, e, o, m, n, f) refl
 
-module _ (r : Resource) (t : ResourceTimeline) (start end category : ℕ) (l : Line) (e : t ≡ with_booking r.timeline start end l.units) where
-  -- with a matrix, and not as a companion
-  pub booked-category : r.matrix.present ≡ true → l.companion ≡ false → with_last (Some category) (with_timeline t r) ≡ booked start end category l r
-  unfolding booked last_after
-  booked-category p q = rw (e, p, q) refl
+answered-ok : (t w : ResourceTimeline) (r : Result ResourceTimeline Refusal) → booked_of t r ≡ record { refusal = 0; timeline = w } → r ≡ Ok w
+answered-ok t w (Ok y) e = ap Ok (ap (λ (x : Booked). x.timeline) e)
+answered-ok t w (Err x) e = absurd (numbered x (ap (λ (x : Booked). x.refusal) e))
 
-  pub booked-companion : l.companion ≡ true → r.matrix.present ≡ true → with_timeline t r ≡ booked start end category l r
-  unfolding booked last_after
-  booked-companion q p = rw (e, p, q) refl
+pub book-ok : (t : ResourceTimeline) (start end category u : ℕ) (r : Result ResourceTimeline Refusal) → timeline.valid t ≡ true → t.len < 64 → Bookable start end category → 1 ≤ u → u ≤ 10000
+    → booked_of t r ≡ book_reply t start end u → r ≡ Ok (with_booking t start end u)
+book-ok t start end category u r v room w some few e = answered-ok t (with_booking t start end u) r (e ∙ book-taken t start end category u v room w some few)
 
-  pub booked-plain : r.matrix.present ≡ false → with_timeline t r ≡ booked start end category l r
-  unfolding booked last_after
-  booked-plain p = rw (e, p) refl
+-- the category that is last then: with a matrix, and not as a companion
+module _ (r : Resource) (category : ℕ) where
+  pub last-taken : r.matrix.present ≡ true → Some category ≡ last_after r false category
+  unfolding last_after
+  last-taken p = rw p refl
+
+  pub last-companion : r.matrix.present ≡ true → r.last ≡ last_after r true category
+  unfolding last_after
+  last-companion p = rw p refl
+
+  pub last-plain : (companion : Bool) → r.matrix.present ≡ false → r.last ≡ last_after r companion category
+  unfolding last_after
+  last-plain companion p = rw p refl
+
+pub booked-with : (r : Resource) (t : ResourceTimeline) (last : Option ℕ) (start end category : ℕ) (l : Line) → t ≡ with_booking r.timeline start end l.units
+    → last ≡ last_after r l.companion category → with_last last (with_timeline t r) ≡ booked start end category l r
+unfolding booked
+booked-with r t last start end category l e q = rw (e, q) refl
 
 -- the lines that are left
 abbrev pub lines_from : Commitment → ℕ → List Line
@@ -176,19 +192,31 @@ module _ (k : Commitment) (places : List ℕ) (b : Board) (i : ℕ) (a : Left k 
   pub left-bookable : Bookable k.start k.end k.category
   left-bookable = a.bookable (omega arith)
 
+  -- the code goes over the first rows alone
+  abbrev read : Row
+  read = get_or (take k.count k.slate) i []
+
+  row_read : read ≡ row
+  row_read = get_or-take k.count k.slate i [] l
+
   -- what the code read of the row
-  module _ (n : ℕ) (e : n ≡ number_in row) where
-    pub row_here : Here b n (get_or places n 0) (units_in row)
+  module _ (n : ℕ) (e : n ≡ number_in read) where
+    pub row_here : Here b n (get_or places n 0) (units_in read)
     unfolding line_of
-    row_here = rw e (ahead-here k places b (line_of row) (lines_from k (i + 1)) left)
+    row_here = rw (e, row_read) (ahead-here k places b (line_of row) (lines_from k (i + 1)) left)
 
     -- what is booked does not depend on the number that the line names
-    pub row_next : (units : ℕ) (companion : Bool) → units ≡ units_in row → companion ≡ is_companion row
+    pub row_next : (units : ℕ) (companion : Bool) → units ≡ units_in read → companion ≡ is_companion read
         → (x : Resource) (name : ℕ) → x ≡ booked k.start k.end k.category (line_with name units companion) (resource_at b (get_or places n 0))
         → Left k places (with_resource b (get_or places n 0) x) (i + 1)
     unfolding line_of booked
     row_next units companion f g x name h = record {
       enough = a.enough;
       bookable = a.bookable;
-      ahead = rw e (ahead-next k places b (line_of row) (lines_from k (i + 1)) left left-bookable x (rw (e, f, g) at h));
+      ahead = rw (e, row_read) (ahead-next k places b (line_of row) (lines_from k (i + 1)) left left-bookable x (rw (e, f, g, row_read) at h));
     }
+
+-- the lines of the first rows are those of the slate
+pub lines_first : (count : ℕ) (slate : List Row) → lines_of (length (take count slate)) (take count slate) ≡ lines_of count slate
+unfolding lines_of
+lines_first count slate = ap (map line_of) (take-length (take count slate))

@@ -1,9 +1,11 @@
-use Rattle.std.specs.Prelude.{◌≡◌, ◌+◌, ◌≤◌, ◌<◌, ℕ, Bool, true, false, cond, ltb, min, refl}
+use Rattle.std.specs.Prelude.{List, ◌-◌, ◌&&◌, ◌≡◌, ◌+◌, ◌≤◌, ◌<◌, ℕ, Bool, true, false, cond, ltb, min, refl}
 use Rattle.std.proofs.Common.{sym, ◌∙◌, arith, lt-ltb, le-ltb, ⊎_elim, length-set}
 use Rattle.cells.specs.Laws.Basics.{filled_next, lt-or-ge}
 use Rattle.board.specs.declared.Board.{Board}
 use Rattle.board.specs.Resources.{resource_at, number_at}
-use Rattle.board.specs.Valid.{resource_right, resource_blank, cell_right}
+use Rattle.board.specs.Valid.{resource_right, resource_blank, cell_right, transport_right, valid}
+use Rattle.board.specs.Places.{transport_right_by}
+use Rattle.cells.specs.Every.{every_from}
 use Rattle.board.specs.Laws.Facts.{resource-number, cell-past, cell-wrong, cell-twice, cell-right, valid-long, valid-start, valid-stop, valid-next, valid-end}
 use Rattle.board.specs.Laws.Seeing.{Seen, seen_none}
 use Rattle.board.specs.Laws.Setting.{seen_next, seen-past, seen_at, transport_same, read_all}
@@ -79,18 +81,27 @@ loop-i-preserved c =
       read = filled_next (λ k. (resource_at b k).timeline.len) l.lens i _ 0 (omega (arith, l.invariant.long)) l.invariant.read refl;
     }
 
+-- at the end the transport decides
+decided : (b : Board) (i : ℕ) (places : List ℕ) (r : Bool) → 16 ≤ i → b.len ≤ 16 → Seen b (min i b.len) places
+    → valid b ≡ every_from (cell_right b) i (16 - i) && every_from (transport_right b) 0 256 → r ≡ every_from (transport_right_by b.transport places) 0 256 → valid b ≡ r
+decided b i places r l few s d e = valid-end b i l d ∙ sym (transport_same b places (read_all b i places s (omega arith)) few) ∙ sym e
+
+pub invariant_of-result : goal.invariant_of-result
+invariant_of-result c =
+    let b = c.args.b in
+    let l = c.loop-i in
+    let v = decided b l.i l.places _ (omega arith) (omega arith) l.invariant.seen l.invariant.decides c.transport_right.ensures ∙ c.if-transport_right.true in
+    record { few_bookings = λ k m. rw (l.invariant.read k (omega arith)) (few-bookings b v k m) }
+
 pub returns-then-transport_right : goal.returns-then-transport_right
 returns-then-transport_right c =
     let b = c.args.b in
     let l = c.loop-i in
-    let s = read_all b l.i l.places l.invariant.seen (omega arith) in
-    let h = valid-end b l.i (omega arith) l.invariant.decides ∙ sym (transport_same b l.places s (omega arith)) ∙ sym c.transport_right.ensures ∙ c.if-transport_right.true in
-    let r = l.invariant.read in
-    (h, s.place, (λ k m. r k (omega arith)), λ k m. rw (r k (omega arith)) (few-bookings b h k m))
+    let v = decided b l.i l.places _ (omega arith) (omega arith) l.invariant.seen l.invariant.decides c.transport_right.ensures ∙ c.if-transport_right.true in
+    (v, (read_all b l.i l.places l.invariant.seen (omega arith)).place, (λ k m. l.invariant.read k (omega arith)))
 
 pub returns-else-transport_right : goal.returns-else-transport_right
 returns-else-transport_right c =
     let b = c.args.b in
     let l = c.loop-i in
-    let s = read_all b l.i l.places l.invariant.seen (omega arith) in
-    valid-end b l.i (omega arith) l.invariant.decides ∙ sym (transport_same b l.places s (omega arith)) ∙ sym c.transport_right.ensures ∙ c.if-transport_right.false
+    decided b l.i l.places _ (omega arith) (omega arith) l.invariant.seen l.invariant.decides c.transport_right.ensures ∙ c.if-transport_right.false

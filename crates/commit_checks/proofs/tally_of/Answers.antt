@@ -1,55 +1,35 @@
-use borrow.Author.Rules.{rules}
-use mathlib.Core.Path.{◌≡◌, refl, ◌∙◌}
-use Prim.Native.Nat.{◌-◌, ◌≤◌, ◌<◌}
-use native.Mathlib.Omega.{arith}
-use lib.ListN.{length, get_or, length-set}
-use Rattle.commit_checks.specs.Lines.{Counted}
+use Rattle.std.specs.Prelude.{◌≡◌, ◌<◌, ◌≤◌, length, get_or, refl}
+use Rattle.std.proofs.Common.{arith, rules, ◌∙◌, length-set}
 use Rattle.commit_checks.proofs.Rows.{counted_none, counted_next, entries-few}
 use Rattle.commit_checks.proofs.tally_of.Goals as goal
 
-pub loop-i-init : goal.loop-i-init
-loop-i-init c = (omega arith, refl, counted_none c.args.slate.now)
+pub loop-row-init : goal.loop-row-init
+loop-row-init c = record { long = refl; counted = counted_none c.args.rows.now }
 
-pub bounds-slate-i : goal.bounds-slate-i
-bounds-slate-i c = omega (arith, c.loop-i-test.true, c.requires.0)
+-- the row names a number below 16
+low : (c : goal.After-number_in) → c.number_in.result < 16
+low c = rw c.number_in.ensures (c.requires c.loop-row.row-index c.loop-row-test.true)
 
--- row i names a number below 16
-low : (c : goal.After-number_in-number) → c.number_in-number.result < 16
-low c = rw c.number_in-number.ensures (c.requires.1 c.loop-i.i c.loop-i-test.true)
-
-pub offset_bounds-tally-number : goal.offset_bounds-tally-number
-offset_bounds-tally-number c = let w = low c in search rules
-
-pub bounds-tally-number : goal.bounds-tally-number
-bounds-tally-number c = let w = low c in search rules
+pub bounds-tally-number_in : goal.bounds-tally-number_in
+bounds-tally-number_in c = let w = low c in search rules
 
 pub overflow_add-tally : goal.overflow_add-tally
 overflow_add-tally c =
-    let a = c.args in
-    let v = c.loop-i.invariant in
-    let i = c.loop-i.i in
+    let l = c.loop-row in
     let w = low c in
-    let n = c.number_in-number.result in
-    let small : get_or c.loop-i.tally n 0 ≤ i = rw (v.2 n w) (entries-few n i a.slate.now) in
+    let n = c.number_in.result in
+    let small : get_or l.tally n 0 ≤ l.row-index = rw (l.invariant.counted n w) (entries-few n l.row-index c.args.rows.now) in
     search rules
 
-pub bounds-tally-number-in-loop-i : goal.bounds-tally-number-in-loop-i
-bounds-tally-number-in-loop-i c = let w = low c in search rules
-
-pub loop-i-preserved : goal.loop-i-preserved
-loop-i-preserved c =
-    let a = c.args in
-    let p = c.requires in
-    let v = c.loop-i.invariant in
-    let i = c.loop-i.i in
-    let l = c.loop-i-test.true in
-    (omega arith, length-set c.loop-i.tally _ _ ∙ v.1, rw c.number_in-number.ensures (counted_next a.slate.now i c.loop-i.tally v.1 (omega (arith, p.0)) (p.1 i l) v.2))
+pub loop-row-preserved : goal.loop-row-preserved
+loop-row-preserved c =
+    let l = c.loop-row in
+    record {
+      long = length-set l.tally _ _ ∙ l.invariant.long;
+      counted = rw c.number_in.ensures (counted_next c.args.rows.now l.row-index l.tally l.invariant.long c.loop-row-test.true (c.requires l.row-index c.loop-row-test.true) l.invariant.counted);
+    }
 
 pub returns : goal.returns
 returns c =
-    let a = c.args in
-    let v = c.loop-i.invariant in
-    let i = c.loop-i.i in
-    let l = c.loop-i-test.false in
-    let z : i ≡ a.count = omega arith in
-    rw z at v.2
+    let z : c.loop-row.row-index ≡ length c.args.rows.now = omega arith in
+    rw z at c.loop-row.invariant.counted

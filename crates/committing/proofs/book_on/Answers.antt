@@ -1,30 +1,31 @@
 -- `committing::book_on` meets its contract.
-use borrow.Author.Rules.{rules}
-use borrow.Author.Tests.{not-true, not-false}
-use mathlib.Core.Path.{◌≡◌, ap, ◌∙◌}
-use Rattle.timeline.specs.Replies.{Booked}
+use Rattle.std.specs.Prelude.{◌≡◌, refl}
 use Rattle.timeline.specs.Book.{with_booking}
-use Rattle.scheduler.specs.Committing.{line_with}
-use Rattle.committing.proofs.Ahead.{book-taken, booked-category, booked-companion, booked-plain}
+use Rattle.scheduler.specs.Committing.{line_with, last_after}
+use Rattle.committing.proofs.Ahead.{book-ok, last-taken, last-companion, last-plain, booked-with}
 use Rattle.committing.proofs.book_on.Goals as goal
+use Rattle.committing.proofs.book_on.Goals.{then-r+then-not-companion, else-r, else-r-via-then-r+else-not-companion, else-r-via-else-r}
 
-pub returns-then-not-companion : goal.returns-then-not-companion
-returns-then-not-companion c =
+pub unwrap-timeline-requires : goal.unwrap-timeline-requires
+unwrap-timeline-requires c =
     let a = c.args in
-    c.with_last.ensures ∙ booked-category a.r _ a.start a.end a.category (line_with a.r.number a.units a.companion) ((let it : c.book-more.result.timeline ≡ with_booking c.args.r.timeline c.args.start c.args.end c.args.units = let a = c.args in
     let p = c.requires in
-    ap (λ (x : Booked). x.timeline) c.book-more.ensures.value ∙ book-taken a.r.timeline a.start a.end a.category a.units p.0 p.1 p.2 p.3.0 p.3.1 in it)) c.if-matrix.true c.if-not-companion.true
+    rw (book-ok a.r.timeline a.start a.end a.category a.units c.book.result p.0 p.1 p.2 p.3.0 p.3.1 c.book.ensures.value) refl
 
-pub returns-else-not-companion : goal.returns-else-not-companion
-returns-else-not-companion c =
+pub returns : goal.returns
+returns c =
     let a = c.args in
-    booked-companion a.r _ a.start a.end a.category (line_with a.r.number a.units a.companion) ((let it : c.book-more.result.timeline ≡ with_booking c.args.r.timeline c.args.start c.args.end c.args.units = let a = c.args in
     let p = c.requires in
-    ap (λ (x : Booked). x.timeline) c.book-more.ensures.value ∙ book-taken a.r.timeline a.start a.end a.category a.units p.0 p.1 p.2 p.3.0 p.3.1 in it)) c.if-not-companion.false c.if-matrix.true
-
-pub returns-else-matrix : goal.returns-else-matrix
-returns-else-matrix c =
-    let a = c.args in
-    booked-plain a.r _ a.start a.end a.category (line_with a.r.number a.units a.companion) ((let it : c.book-more.result.timeline ≡ with_booking c.args.r.timeline c.args.start c.args.end c.args.units = let a = c.args in
-    let p = c.requires in
-    ap (λ (x : Booked). x.timeline) c.book-more.ensures.value ∙ book-taken a.r.timeline a.start a.end a.category a.units p.0 p.1 p.2 p.3.0 p.3.1 in it)) c.if-matrix.false
+    let ok = book-ok a.r.timeline a.start a.end a.category a.units c.book.result p.0 p.1 p.2 p.3.0 p.3.1 c.book.ensures.value in
+    let q : c.if-r.last ≡ last_after a.r a.companion a.category =
+    elim c.if-r.branch [
+      | then-r+then-not-companion w ↦ rw (w.last-is, w.if-not-companion.true) (last-taken a.r a.category w.if-r.true)
+      | else-r w ↦
+          rw w.last-is
+          (elim w.else-r.branch [
+            | else-r-via-then-r+else-not-companion w' ↦ rw w'.if-not-companion.false (last-companion a.r a.category w'.if-r.true)
+            | else-r-via-else-r w' ↦ last-plain a.r a.category a.companion w'.if-r.false
+          ])
+    ] in
+    let e : c.unwrap-timeline.result ≡ with_booking a.r.timeline a.start a.end a.units = cc in
+    booked-with a.r c.unwrap-timeline.result c.if-r.last a.start a.end a.category (line_with a.r.number a.units a.companion) e q
