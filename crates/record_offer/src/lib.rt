@@ -4,15 +4,18 @@
 
 ghost use Rattle.std.specs.Prelude.{◌≡◌, ◌+◌, ◌≤◌, length};
 ghost use Rattle.scheduler.specs.Placing.{slate_after};
+ghost use Rattle.placing.specs.Told.{answer_of as answer_to};
+ghost use Rattle.record_board.specs.Replies.{stepped_of};
+ghost use Rattle.record_offer.specs.Replies.{tells, turn_of};
 ghost use Rattle.record_offer.specs.Offers.{answer_of, placing as placing_of, placed_answer, commit_does};
 ghost use Rattle.record_offer.specs.Offers.{told as told_of, ends, turn_reply, shown, SlateTurned};
 
 mod kinds;
 
-use board::Entered;
+use calendar::Refusal;
 use kinds::OfferKind;
 use placing::{PlaceReply, Placed};
-use record_board::{DeskStepped, step};
+use record_board::step;
 use record_bodies::number;
 use record_desk::Desk;
 use scheduler::rows::Row;
@@ -25,7 +28,7 @@ pub enum OfferAnswer {
     Chosen(u64),
     None,
     Committed,
-    Refused(u8),
+    Refused(Refusal),
 }
 
 // A record read from a run of bytes: what is in hand, what it answered, where the next one begins, and whether to go on.
@@ -38,15 +41,15 @@ pub struct OfferTurn {
 }
 
 // What placing answers.
-#[tactic(auto, unfolding(crate::specs::Offers::answer_of))]
-fn answer_of(r: PlaceReply) -> OfferAnswer
-    ensures { result ≡ answer_of r }
+#[tactic(auto, unfolding(crate::specs::Offers::answer_of, placing::specs::Told::answer_of))]
+fn answer_of(reply: Result<PlaceReply, Refusal>) -> OfferAnswer
+    ensures { tells result ≡ answer_of (answer_to reply) }
 {
-    match r {
-        PlaceReply::Placed(p) => OfferAnswer::Placed(p),
-        PlaceReply::ChosenNone(choosing) => OfferAnswer::Chosen(choosing),
-        PlaceReply::None => OfferAnswer::None,
-        PlaceReply::Refused(n) => OfferAnswer::Refused(n),
+    match reply {
+        Ok(PlaceReply::Placed(p)) => OfferAnswer::Placed(p),
+        Ok(PlaceReply::ChosenNone(choosing)) => OfferAnswer::Chosen(choosing),
+        Ok(PlaceReply::None) => OfferAnswer::None,
+        Err(refusal) => OfferAnswer::Refused(refusal),
     }
 }
 
@@ -54,9 +57,9 @@ fn answer_of(r: PlaceReply) -> OfferAnswer
 #[tactic(auto, unfolding(crate::specs::Offers::placed_answer, crate::specs::Offers::placing))]
 fn place(desk: Desk, slate: &mut [Row], bytes: &[u8], at: usize) -> OfferAnswer
     requires { at + 8 ≤ length bytes.now }
-    ensures value { result ≡ placed_answer desk slate.old bytes.now at }
+    ensures value { tells result ≡ placed_answer desk slate.old bytes.now at }
     ensures slate_after { slate.new ≡ slate_after (placing_of desk slate.old bytes.now at) slate.old }
-    ensures on_slate { shown result ≤ length slate.new }
+    ensures on_slate { shown (tells result) ≤ length slate.new }
 {
     let ready = number(bytes, at, 8);
     answer_of(placing::place_activity(desk.board, desk.activity, ready, slate))
@@ -64,27 +67,22 @@ fn place(desk: Desk, slate: &mut [Row], bytes: &[u8], at: usize) -> OfferAnswer
 
 // Kind 26: commits the first entries of the slate, with the order's category.
 #[tactic(auto, unfolding(crate::specs::Offers::commit_does))]
-fn commit(desk: Desk, slate: &[Row], bytes: &[u8], at: usize) -> DeskStepped
+fn commit(desk: Desk, slate: &[Row], bytes: &[u8], at: usize) -> Result<Desk, Refusal>
     requires { at + 20 ≤ length bytes.now }
-    ensures { result ≡ commit_does desk slate.now bytes.now at }
+    ensures { stepped_of desk result ≡ commit_does desk slate.now bytes.now at }
 {
     let count = number(bytes, at, 4) as usize;
     let start = number(bytes, at + 4, 8);
     let end = number(bytes, at + 12, 8);
     let category = desk.activity.category;
-    let Entered { refusal, board } = committing::commit(
-        desk.board, slate, count, start, end, category,
-    );
-    DeskStepped {
-        desk: Desk { board, ..desk },
-        refusal,
-    }
+    let board = committing::commit(desk.board, slate, count, start, end, category)?;
+    Ok(Desk { board, ..desk })
 }
 
 // The stream ends here with this answer.
 #[tactic(auto, unfolding(crate::specs::Offers::ends))]
 fn last(desk: Desk, answer: OfferAnswer, at: usize) -> OfferTurn
-    ensures { result ≡ ends desk answer at }
+    ensures { turn_of result ≡ ends desk (tells answer) at }
 {
     OfferTurn {
         desk,
@@ -95,24 +93,23 @@ fn last(desk: Desk, answer: OfferAnswer, at: usize) -> OfferTurn
 }
 
 // A refusal is told in place of the answer, and 9 ends the stream.
-#[tactic(auto, unfolding(crate::specs::Offers::told))]
-fn told(s: DeskStepped, answer: OfferAnswer, at: usize) -> OfferTurn
-    ensures { result ≡ told_of s answer at }
+#[tactic(auto, using(calendar::specs::Laws::Refusals::numbered), unfolding(crate::specs::Offers::told))]
+fn told(desk: Desk, stepped: Result<Desk, Refusal>, answer: OfferAnswer, at: usize) -> OfferTurn
+    ensures { turn_of result ≡ told_of (stepped_of desk stepped) (tells answer) at }
 {
-    let DeskStepped { desk, refusal } = s;
-    if refusal == 0 {
-        return OfferTurn {
+    match stepped {
+        Ok(desk) => OfferTurn {
             desk,
             answer,
             at,
             more: true,
-        };
-    }
-    OfferTurn {
-        desk,
-        answer: OfferAnswer::Refused(refusal),
-        at,
-        more: refusal != 9,
+        },
+        Err(refusal) => OfferTurn {
+            desk,
+            answer: OfferAnswer::Refused(refusal),
+            at,
+            more: refusal != Refusal::Unreadable,
+        },
     }
 }
 
@@ -121,17 +118,17 @@ fn told(s: DeskStepped, answer: OfferAnswer, at: usize) -> OfferTurn
 #[tactic(auto, unfolding(crate::specs::Offers::turn_reply, crate::specs::Offers::slate_reply, crate::specs::Offers::record_does, crate::specs::Offers::told, crate::specs::Offers::ends, crate::specs::Offers::shown))]
 pub fn record(desk: Desk, slate: &mut [Row], bytes: &[u8], at: usize, len: usize) -> OfferTurn
     requires { (at ≤ len) × (len ≤ length bytes.now) }
-    ensures value { (result ≡ turn_reply desk slate.old bytes.now at len) × (result.at ≤ len) }
-    ensures slate_turned { SlateTurned desk slate.old bytes.now at len slate.new result.answer }
+    ensures value { (turn_of result ≡ turn_reply desk slate.old bytes.now at len) × (result.at ≤ len) }
+    ensures slate_turned { SlateTurned desk slate.old bytes.now at len slate.new (tells result.answer) }
 {
     if at == len {
         return last(desk, OfferAnswer::Nothing, at);
     }
     let Ok(kind) = OfferKind::try_from(bytes[at]) else {
-        return last(desk, OfferAnswer::Refused(9), at);
+        return last(desk, OfferAnswer::Refused(Refusal::Unreadable), at);
     };
     let Some(n) = kind.body_len(bytes, at + 1, len) else {
-        return last(desk, OfferAnswer::Refused(9), at);
+        return last(desk, OfferAnswer::Refused(Refusal::Unreadable), at);
     };
     let next = at + 1 + n;
     match kind {
@@ -144,11 +141,13 @@ pub fn record(desk: Desk, slate: &mut [Row], bytes: &[u8], at: usize, len: usize
                 more: true,
             }
         }
-        OfferKind::Commit => told(
-            commit(desk, slate, bytes, at + 1),
-            OfferAnswer::Committed,
-            next,
-        ),
-        OfferKind::Board(kind) => told(step(desk, kind, bytes, at + 1), OfferAnswer::Nothing, next),
+        OfferKind::Commit => {
+            let committed = commit(desk, slate, bytes, at + 1);
+            told(desk, committed, OfferAnswer::Committed, next)
+        }
+        OfferKind::Board(kind) => {
+            let stepped = step(desk, kind, bytes, at + 1);
+            told(desk, stepped, OfferAnswer::Nothing, next)
+        }
     }
 }
