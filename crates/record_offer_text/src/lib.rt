@@ -4,6 +4,7 @@
 
 ghost use Rattle.std.specs.Prelude.{◌≡◌, ◌+◌, ◌*◌, ◌≤◌, length, take};
 ghost use Rattle.record_texts.specs.Text.{Put};
+ghost use Rattle.record_offer.specs.Replies.{tells};
 ghost use Rattle.record_offer.specs.Offers.{shown as shown_of};
 ghost use Rattle.record_offer_text.specs.Lines.{entry_text, entries_text, line_text, text_of, placed_text, chosen_text};
 ghost use Rattle.record_offer_text.specs.Lines.{line_most, entry_most, text_most};
@@ -72,7 +73,7 @@ fn put_chosen(out: &mut [u8], at: usize, choosing: u64) -> usize
 // The line of an answer.
 fn put_line(out: &mut [u8], at: usize, answer: OfferAnswer) -> usize
     requires { at + line_most ≤ length out.old }
-    ensures put { Put out.old at (line_text answer) out.new result }
+    ensures put { Put out.old at (line_text (tells answer)) out.new result }
     ensures upper_bound { result ≤ at + line_most }
 {
     match answer {
@@ -81,14 +82,14 @@ fn put_line(out: &mut [u8], at: usize, answer: OfferAnswer) -> usize
         OfferAnswer::Chosen(choosing) => put_chosen(out, at, choosing),
         OfferAnswer::None => record_diary_text::text(Line::None, out, at),
         OfferAnswer::Committed => put(out, at, b"committed\n"),
-        OfferAnswer::Refused(n) => record_diary_text::text(Line::Refused(n), out, at),
+        OfferAnswer::Refused(refusal) => record_diary_text::text(Line::Refused(refusal), out, at),
     }
 }
 
 // How many entries of the slate an answer speaks of.
 #[tactic(auto, unfolding(record_offer::specs::Offers::shown))]
 fn shown(answer: OfferAnswer) -> usize
-    ensures { result ≡ shown_of answer }
+    ensures { result ≡ shown_of (tells answer) }
 {
     match answer {
         OfferAnswer::Placed(p) => p.count,
@@ -98,8 +99,8 @@ fn shown(answer: OfferAnswer) -> usize
 
 // Puts all that an answer prints into out from `at` on, and answers where it ends.
 pub fn text(answer: OfferAnswer, slate: &[Row], out: &mut [u8], at: usize) -> usize
-    requires { (shown_of answer ≤ length slate.now) × (shown_of answer ≤ 24) × (at + text_most ≤ length out.old) }
-    ensures put { Put out.old at (text_of answer slate.now) out.new result }
+    requires { (shown_of (tells answer) ≤ length slate.now) × (shown_of (tells answer) ≤ 24) × (at + text_most ≤ length out.old) }
+    ensures put { Put out.old at (text_of (tells answer) slate.now) out.new result }
     ensures upper_bound { result ≤ at + text_most }
 {
     let end = put_line(out, at, answer);

@@ -40,9 +40,9 @@ fn print(answer: QueryAnswer) {
         QueryAnswer::No => {
             io::write_all(1, b"no\n");
         }
-        QueryAnswer::Refused(n) => {
+        QueryAnswer::Refused(refusal) => {
             io::write_all(1, b"refused");
-            value(u64::from(n));
+            value(u64::from(refusal.number()));
             io::write_all(1, b"\n");
         }
     }
