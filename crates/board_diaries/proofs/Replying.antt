@@ -2,18 +2,18 @@
 use mathlib.Core.Bool.{Bool, true, false, not, cond, and-true, or-true, or-false}
 use mathlib.Core.Path.{◌≡◌, refl, ap, ◌∙◌}
 use Prim.Native.Nat.{ℕ}
-use native.Mathlib.Omega.{arith}
 use Rattle.calendar.specs.Search.{Found, nothing, at, is_at}
 use Rattle.timeline.specs.Diary.{blank_diary}
 use Rattle.board.specs.Enter.{entered, with_resource, changed, looked_at, timeline_of_reply, put_refusal, put_timeline_reply}
 use Rattle.board_numbers.specs.Entry.{PlaceFor, entry_at, entry_for}
 use Rattle.calendar.specs.declared.refusal.Refusal.{Refusal}
+use Rattle.calendar.specs.declared.refusal.Refusal.TheVariants.{Invalid}
 use Rattle.calendar.specs.Replies.{number_of}
 use Rattle.calendar.specs.Laws.Refusals.{numbered}
 use Rattle.board.specs.Resources.{with_timeline, resource_at, lookup, on_board}
 use Rattle.board.specs.Valid.{valid}
 use Rattle.board.specs.declared.Board.{Board}
-use Rattle.board.specs.Laws.Replying.{refused-by, refused_as}
+use Rattle.board.specs.Laws.Replying.{refused_as}
 use Rattle.board_numbers.proofs.Finding.{entry_err}
 use Rattle.timeline.specs.declared.ResourceTimeline.{ResourceTimeline}
 use Rattle.timeline.specs.Valid as timeline
@@ -42,7 +42,7 @@ module _ (b : Board) (number : ℕ) where
 module _ (b : Board) (number : ℕ) (t : ResourceTimeline) where
   pub put_wrong : timeline.valid t ≡ false → record { refusal = 15; board = b } ≡ put_timeline_reply b number t
   unfolding put_timeline_reply put_refusal
-  put_wrong w = refused-by 15 _ b _ (rw (w, or-true (not (valid b))) refl) (λ z. omega arith)
+  put_wrong w = refused_as Invalid _ b _ (rw (w, or-true (not (valid b))) refl)
 
   pub put_refused : (e : Refusal) → timeline.valid t ≡ true → record { refusal = number_of e; place = 0 } ≡ entry_for b number → record { refusal = number_of e; board = b } ≡ put_timeline_reply b number t
   unfolding put_timeline_reply put_refusal

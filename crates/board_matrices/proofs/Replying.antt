@@ -3,7 +3,6 @@ use borrow.Author.Tests.{le-leb}
 use mathlib.Core.Bool.{Bool, true, false, not, cond, ◌&&◌, and-true, and-false}
 use mathlib.Core.Path.{◌≡◌, refl}
 use Prim.Native.Nat.{ℕ, ◌≤◌}
-use native.Mathlib.Omega.{arith}
 use lib.Dec.{leb}
 use lib.IntN.{ℤ}
 use Rattle.cells.specs.Laws.Basics.{and-join}
@@ -13,9 +12,10 @@ use Rattle.board.specs.Resources.{with_matrix, resource_at, lookup, on_board}
 use Rattle.board.specs.Valid.{duration_right, entry_right, valid}
 use Rattle.board.specs.declared.Board.{Board}
 use Rattle.board.specs.declared.TransitionMatrix.{TransitionMatrix}
-use Rattle.board.specs.Laws.Replying.{refused-by, refused_as, taken-by}
+use Rattle.board.specs.Laws.Replying.{refused_as, taken-by}
 use Rattle.board_numbers.proofs.Finding.{entry_err}
 use Rattle.calendar.specs.declared.refusal.Refusal.{Refusal}
+use Rattle.calendar.specs.declared.refusal.Refusal.TheVariants.{OutOfRange, Number}
 use Rattle.calendar.specs.Replies.{number_of}
 use Rattle.board_numbers.specs.Entry.{entry_for}
 
@@ -27,7 +27,7 @@ module _ (b : Board) (number : ℕ) (d i : ℤ) where
 
   pub matrix-wrong : (k : ℕ) → valid b ≡ true → lookup b number ≡ at k → duration_right d && duration_right i ≡ false → record { refusal = 1; board = b } ≡ set_matrix_reply b number d i
   unfolding set_matrix_reply matrix_refusal is_at
-  matrix-wrong k v l e = refused-by 1 _ b _ (rw (v, l, e) refl) (λ z. omega arith)
+  matrix-wrong k v l e = refused_as OutOfRange _ b _ (rw (v, l, e) refl)
 
   pub matrix-taken : (k : ℕ) (m : TransitionMatrix) → valid b ≡ true → lookup b number ≡ at k → duration_right d ≡ true → duration_right i ≡ true → m ≡ new_matrix d i
       → record { refusal = 0; board = with_resource b k (with_matrix m (resource_at b k)) } ≡ set_matrix_reply b number d i
@@ -42,11 +42,11 @@ module _ (b : Board) (number : ℕ) (more : Bool) (ms : ℤ) (after : Board) whe
 
   pub category-refused : valid b ≡ true → more ≡ false → record { refusal = 5; board = b } ≡ entered (entry_refusal b number more ms) b after
   unfolding entry_refusal
-  category-refused v e = refused-by 5 _ b after (rw (v, e, and-false (on_board b number)) refl) (λ z. omega arith)
+  category-refused v e = refused_as Number _ b after (rw (v, e, and-false (on_board b number)) refl)
 
   pub entry-wrong : (k : ℕ) → valid b ≡ true → lookup b number ≡ at k → more ≡ true → entry_right ms ≡ false → record { refusal = 1; board = b } ≡ entered (entry_refusal b number more ms) b after
   unfolding entry_refusal is_at
-  entry-wrong k v l e f = refused-by 1 _ b after (rw (v, l, e, f) refl) (λ z. omega arith)
+  entry-wrong k v l e f = refused_as OutOfRange _ b after (rw (v, l, e, f) refl)
 
   entry-fine : (k : ℕ) → valid b ≡ true → lookup b number ≡ at k → more ≡ true → entry_right ms ≡ true → entry_refusal b number more ms ≡ 0
   unfolding entry_refusal is_at

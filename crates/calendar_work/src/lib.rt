@@ -9,24 +9,24 @@ ghost use Rattle.cells.specs.Cells.{before, Rising, Before};
 ghost use Rattle.calendar_work.specs.Layout.{laid, Edges, found_of};
 
 // When work that starts at `start` ends: none from a pause or with too little time left.
-pub fn work_end(edges: &[u64], len: usize, start: u64, work: u64) -> Option<u64>
-    requires len_bound { (len ≤ 4096) × (len ≤ length edges.now) × (start < never) × (work < never) }
-    requires edges { Edges edges.now len }
-    ensures { found_of result ≡ work_end (before edges.now len) (laid edges.now len) start work }
+pub fn work_end(edges: &[u64], start: u64, work: u64) -> Option<u64>
+    requires bounds { (length edges.now ≤ 4096) × (start < never) × (work < never) }
+    requires edges { Edges edges.now (length edges.now) }
+    ensures { found_of result ≡ work_end (before edges.now (length edges.now)) (laid edges.now (length edges.now)) start work }
 {
-    let mut k = cells::cells_before(edges, len, start + 1);
+    let mut k = cells::cells_before(edges, start + 1);
     if k % 2 == 0 {
         return None;
     }
     let mut at = start;
     let mut left = work;
     // A `while`: each turn passes two edges, a piece's end and the next one's beginning, and the last piece may have no end.
-    while k < len {
+    while k < edges.len() {
         let end = edges[k];
         if left <= end - at {
             return Some(at + left);
         }
-        if k + 1 == len {
+        if k + 1 == edges.len() {
             return None;
         }
         left -= end - at;

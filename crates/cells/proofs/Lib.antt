@@ -2,4 +2,3 @@
 pub mod Shift
 pub mod Passing
 pub mod Sorting
-pub mod Halves

@@ -2,7 +2,8 @@
 use Rattle.std.specs.Prelude.{Option, Some, Result, Ok, Err}
 use Rattle.calendar.specs.declared.refusal.Refusal.{Refusal}
 use Rattle.calendar.specs.Laws.Refusals.{numbered}
-use Rattle.timeline.specs.Replies.{Booked, booked_of}
+use Rattle.timeline.specs.declared.Booked.{Booked}
+use Rattle.timeline.specs.Replies.{booked_of}
 use mathlib.Core.Path.{◌≡◌, refl, sym, ap, ◌∙◌, subst}
 use mathlib.Core.Bool.{Bool, true, false, cond}
 use mathlib.Core.List.{List, [], ◌∷◌, map}

@@ -21,6 +21,9 @@ use Rattle.calendar_work.specs.Layout.{Layout, laid, found_of}
 use Rattle.calendar.specs.Add.{no_calendar}
 use Rattle.calendar_joint.specs.Layout.{Ruled}
 use Rattle.calendar_joint.proofs.Ending.{layout-end}
+use Rattle.calendar_joint.proofs.Laying.{layout-part}
+use Rattle.std.proofs.Common.{length-take}
+use Rattle.std.proofs.lemmas.List.{get_or-take}
 use Rattle.timeline.specs.declared.ResourceTimeline.{ResourceTimeline}
 use Rattle.timeline.specs.Valid.{valid}
 use Rattle.timeline.specs.Earliest.{free_on}
@@ -119,14 +122,21 @@ module _ (xs : List Share) (n work from : ℕ) (stops : List ℕ) where
     pub gathers-ruled : (cs : List Calendar) → Gathers cs n → Ruled cs n
     gathers-ruled cs g k h = ap calendar.valid (g.cells k h) ∙ (rules_of _ (each_at (λ x. valid x.timeline ≡ true) no_share xs sound k (omega (arith, long)))).calendar
 
+    -- those n alone
+    pub gathers-front : (cs : List Calendar) → Gathers cs n → n ≤ length cs → Ruled (take n cs) (length (take n cs))
+    gathers-front cs g l k h =
+        let m : k < n = omega (arith, length-take n cs) in
+        rw (get_or-take n cs k no_calendar m) (gathers-ruled cs g k m)
+
     gathers-all : (cs : List Calendar) → Gathers cs n → n ≤ 25 → take n cs ≡ map calendar_of xs
     gathers-all cs g m = cells-map calendar_of no_share no_calendar n xs cs (omega (arith, long)) (omega (arith, g.long)) (λ k h. g.cells k (omega arith)) ∙ ap (map calendar_of) (take_all n xs (omega (arith, long)))
 
     -- the joint time is laid out: the walk begins at `from`
-    pub walks-begin : (cs : List Calendar) (edges : List ℕ) (len : ℕ) → Gathers cs n → n ≤ 25 → from ≤ 2 ^ 63 → len ≤ 3201 → Layout (λ p. leb from p && joint (take n cs) p) edges len → Walks edges len from
-    walks-begin cs edges len g m f short y = record {
-      short = short;
-      layout = subst (λ (zs : List Calendar). Layout (λ p. leb from p && joint zs p) edges len) (gathers-all cs g m) y;
+    pub walks-begin : (cs : List Calendar) (edges : List ℕ) (len : ℕ) → Gathers cs n → n ≤ 25 → from ≤ 2 ^ 63 → len ≤ 3201 → len ≤ length edges → Layout (λ p. leb from p && joint (take n cs) p) edges len
+        → Walks (take len edges) (length (take len edges)) from
+    walks-begin cs edges len g m f short l y = record {
+      short = omega (arith, length-take len edges);
+      layout = subst (λ (zs : List Calendar). Layout (λ p. leb from p && joint zs p) (take len edges) (length (take len edges))) (gathers-all cs g m) (layout-part _ edges len l y);
       sought = sought-start _ from;
       most = f;
     }

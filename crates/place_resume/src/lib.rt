@@ -46,11 +46,11 @@ pub fn fit_resumable(
         let (d, _) = diary_at(&b, &e, places, &first, i);
         cs[i] = d.calendar;
     }
-    let joint = calendar_joint::joint_time(cs, e.count + 1, from);
+    let joint = calendar_joint::joint_time(&cs[..e.count + 1], from);
     let mut at = from;
     // A `while`: the next instant to try is the first event after this one, on whichever diary.
     while at < NEVER {
-        let mut end = calendar_work::work_end(&joint.edges, joint.len, at, work);
+        let mut end = calendar_work::work_end(&joint.edges[..joint.len], at, work);
         let mut next = NEVER;
         for i in 0..e.count + 1 {
             let (d, units) = diary_at(&b, &e, places, &first, i);

@@ -2,7 +2,7 @@
 use Rattle.std.specs.Prelude.{ℕ, ◌+◌, ◌-◌, ◌^◌, Bool, true, false, cond, ◌||◌, List, get_or, pos, leb, ltb, eqb}
 use Rattle.calendar.specs.Add.{add_window, add_block}
 use Rattle.timeline.specs.declared.ResourceTimeline.{ResourceTimeline}
-use Rattle.timeline.specs.Replies.{Booked}
+use Rattle.timeline.specs.declared.Booked.{Booked}
 use Rattle.timeline.specs.Diary.{new_diary}
 use Rattle.timeline.specs.Book.{book_reply, calendar_reply}
 use Rattle.timeline.specs.Ask.{AskReply, refused, fit_reply, resumable_reply}

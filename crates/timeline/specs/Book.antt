@@ -3,7 +3,7 @@ use Rattle.std.specs.Prelude.{ℕ, zero, suc, not, cond, ◌||◌, leb, ltb}
 use Rattle.calendar.specs.Limits.{last_instant, most_units, most_bookings}
 use Rattle.calendar.specs.Replies.{Added}
 use Rattle.timeline.specs.declared.ResourceTimeline.{ResourceTimeline}
-use Rattle.timeline.specs.Replies.{Booked}
+use Rattle.timeline.specs.declared.Booked.{Booked}
 use Rattle.timeline.specs.Bookings.{booking, bookings}
 use Rattle.timeline.specs.Diary.{insert_booking, with_bookings, with_calendar}
 use Rattle.timeline.specs.Valid.{valid}

@@ -30,6 +30,14 @@ pub struct ResourceTimeline {
     pub booked: u64,
 }
 
+// What a booking answers: the refusal's number, 0 for none, and the diary, new or unchanged. (A number beside a diary, and no Result: 01,
+// 'What form to use where', names this form; `try_book` answers a Result.)
+#[derive(Clone, Copy)]
+pub struct Booked {
+    pub refusal: u8,
+    pub timeline: ResourceTimeline,
+}
+
 // A filled cell keeps the rules, after a cell with start ps and latest end pl.
 #[tactic(auto, unfolding(crate::specs::Valid::cell_right))]
 fn cell_right(s: u64, e: u64, u: u32, l: u64, ps: u64, pl: u64) -> bool
@@ -159,8 +167,25 @@ impl ResourceTimeline {
     }
 
     // Books, or refuses: 15 a diary that breaks the rules, 1 an instant, 2 end at or before start, 3 units, 4 a 65th.
+    pub fn book(self, start: u64, end: u64, units: u32) -> Booked
+        ensures value { result ≡ book_reply self start end units }
+        ensures timeline_value { valid self ≡ true → valid result.timeline ≡ true }
+    {
+        match self.try_book(start, end, units) {
+            Ok(timeline) => Booked {
+                refusal: 0,
+                timeline,
+            },
+            Err(refusal) => Booked {
+                refusal: refusal.number(),
+                timeline: self,
+            },
+        }
+    }
+
+    // The same, for a caller that hands a refusal on.
     #[tactic(auto, unfolding(crate::specs::Book::book_reply, crate::specs::Book::taken))]
-    pub fn book(self, start: u64, end: u64, units: u32) -> Result<ResourceTimeline, Refusal>
+    pub fn try_book(self, start: u64, end: u64, units: u32) -> Result<ResourceTimeline, Refusal>
         ensures value { booked_of self result ≡ book_reply self start end units }
         ensures timeline_value { IfOk result (λ t. valid self ≡ true → valid t ≡ true) }
     {

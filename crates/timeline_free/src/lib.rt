@@ -73,7 +73,7 @@ pub fn free_over(t: &ResourceTimeline, s: u64, e: u64, room: u64) -> bool
     requires { Columns t.now.starts t.now.ends t.now.units t.now.latest t.now.len }
     ensures { result ≡ free room (bookings t.now) 0 s e }
 {
-    let first = cells::cells_before(&t.latest, t.len, s);
+    let first = cells::cells_before(&t.latest[..t.len], s);
     units_over(t, first, s, e) <= room || has_room(t, first, s, e, room)
 }
 

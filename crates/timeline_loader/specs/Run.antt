@@ -6,7 +6,7 @@ use Rattle.calendar.specs.Replies.{Added}
 use Rattle.calendar.specs.Valid.{valid}
 use Rattle.calendar.specs.Add.{add_window, add_block}
 use Rattle.timeline.specs.declared.ResourceTimeline.{ResourceTimeline}
-use Rattle.timeline.specs.Replies.{Booked}
+use Rattle.timeline.specs.declared.Booked.{Booked}
 use Rattle.timeline.specs.Book.{calendar_reply}
 use Rattle.timeline_loader.specs.declared.TimeWindow.{TimeWindow}
 

@@ -25,7 +25,7 @@ fn first_resumable(t: ResourceTimeline, from: u64, work: u64, units: u32) -> Opt
     let n = timeline_candidates::start_candidates(t, from, &mut listed);
     for i in 0..n {
         let at = listed[i];
-        if let Some(end) = calendar_work::work_end(&edges, m, at, work) {
+        if let Some(end) = calendar_work::work_end(&edges[..m], at, work) {
             if timeline_free::free_over(&t, at, end, room) {
                 return Some((at, end));
             }

@@ -1,5 +1,5 @@
 -- What an iterator's `all` tells is the definition's 'each': of a list, and of a run of indexes of it.
-use Rattle.std.specs.Prelude.{◌≡◌, ◌<◌, ◌≤◌, ◌+◌, ℕ, Bool, true, false, List, length, get_or, refl, Option, None, MatchOption, MatchBool}
+use Rattle.std.specs.Prelude.{◌≡◌, ◌<◌, ℕ, Bool, true, false, List, length, get_or, refl, Option, MatchOption, MatchBool}
 use Rattle.std.proofs.Common.{sym, ◌∙◌, arith}
 use Rattle.std.specs.List.{AllWithin, HoldsAt, FoldsTo}
 use Rattle.std.specs.Fn.{Called}

@@ -10,13 +10,13 @@ pub unwrap-timeline-requires : goal.unwrap-timeline-requires
 unwrap-timeline-requires c =
     let a = c.args in
     let p = c.requires in
-    rw (book-ok a.r.timeline a.start a.end a.category a.units c.book.result p.0 p.1 p.2 p.3.0 p.3.1 c.book.ensures.value) refl
+    rw (book-ok a.r.timeline a.start a.end a.category a.units c.try_book.result p.0 p.1 p.2 p.3.0 p.3.1 c.try_book.ensures.value) refl
 
 pub returns : goal.returns
 returns c =
     let a = c.args in
     let p = c.requires in
-    let ok = book-ok a.r.timeline a.start a.end a.category a.units c.book.result p.0 p.1 p.2 p.3.0 p.3.1 c.book.ensures.value in
+    let ok = book-ok a.r.timeline a.start a.end a.category a.units c.try_book.result p.0 p.1 p.2 p.3.0 p.3.1 c.try_book.ensures.value in
     let q : c.if-r.last ≡ last_after a.r a.companion a.category =
     elim c.if-r.branch [
       | then-r+then-not-companion w ↦ rw (w.last-is, w.if-not-companion.true) (last-taken a.r a.category w.if-r.true)

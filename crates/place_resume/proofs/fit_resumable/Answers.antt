@@ -1,4 +1,4 @@
-use Rattle.std.proofs.Common.{◌≡◌, ℕ, ◌+◌, ◌≤◌, true, List, ◌∷◌, refl, sym, ap, ◌∙◌, subst, arith}
+use Rattle.std.proofs.Common.{rules, length, length-take, ◌≡◌, ℕ, ◌+◌, ◌≤◌, true, List, ◌∷◌, refl, sym, ap, ◌∙◌, subst, arith}
 use Rattle.calendar.specs.declared.Calendar.{Calendar}
 use Rattle.calendar.specs.Search.{nothing}
 use Rattle.timeline.specs.declared.ResourceTimeline.{ResourceTimeline}
@@ -14,7 +14,7 @@ use Rattle.timeline_candidates.specs.Steps.{Event}
 use Rattle.place_fit.specs.Asks.{those, share}
 use Rattle.place_fit.proofs.Reading.{instants, asks-own, asks-long, asks-sound, asks-kept}
 use Rattle.place_resume.proofs.Resuming.{Least}
-use Rattle.place_resume.proofs.Walking.{gathers-next, gathers-ruled, walks-begin, walks-found, walks-on, walks-over, tried-none, tried-next, remaining-falls, event-stop}
+use Rattle.place_resume.proofs.Walking.{gathers-next, gathers-front, walks-begin, walks-found, walks-on, walks-over, tried-none, tried-next, remaining-falls, event-stop}
 use Rattle.place_resume.proofs.fit_resumable.Goals as goal
 
 module _ (work from : ℕ) (xs : List Share) (own : Calendar) (first : ResourceTimeline) (e : first ≡ (own_share own).timeline) where
@@ -59,7 +59,7 @@ joint_time-joint-requires c =
     let stops = instants b es n first in
     let v = c.loop-i.invariant in
     let z : c.loop-i.i ≡ n + 1 = omega (arith, c.loop-i-test.false) in
-    (omega (arith, v.asks.entries.few), omega (arith, c.requires.4), gathers-ruled xs (n + 1) a.work a.from stops (asks-sound b es n first places v.asks) (asks-long b es n first places v.asks) _ (rw z at v.gathers))
+    (omega (arith, v.asks.entries.few, length-take (n + 1) c.loop-i.cs), omega (arith, c.requires.4), gathers-front xs (n + 1) a.work a.from stops (asks-sound b es n first places v.asks) (asks-long b es n first places v.asks) _ (rw z at v.gathers) (let l = v.gathers.long in let f = v.asks.entries.few in omega arith))
 
 pub loop-at-init : goal.loop-at-init
 loop-at-init c =
@@ -74,7 +74,7 @@ loop-at-init c =
     let v = c.loop-i.invariant in
     let z : c.loop-i.i ≡ n + 1 = omega (arith, c.loop-i-test.false) in
     let y = c.joint_time-joint.ensures in
-    record { asks = v.asks; walks = walks-begin xs (n + 1) a.work a.from stops (asks-sound b es n first places v.asks) (asks-long b es n first places v.asks) c.loop-i.cs _ _ (rw z at v.gathers) (omega (arith, v.asks.entries.few)) (omega (arith, c.requires.4)) y.0 y.1 }
+    record { asks = v.asks; walks = walks-begin xs (n + 1) a.work a.from stops (asks-sound b es n first places v.asks) (asks-long b es n first places v.asks) c.loop-i.cs _ _ (rw z at v.gathers) (omega (arith, v.asks.entries.few)) (omega (arith, c.requires.4)) y.0 (let l : length c.joint_time-joint.result.edges ≡ 3201 = search rules in omega (arith, y.0)) y.1 }
 
 pub loop-i-2-init : goal.loop-i-2-init
 loop-i-2-init c =

@@ -2,6 +2,7 @@ use borrow.Author.Rules.{rules}
 use mathlib.Core.Path.{◌≡◌}
 use native.Mathlib.Omega.{arith}
 use lib.ListN.{length}
+use Rattle.cells.specs.Laws.Cells.{front-rising, front-before}
 use Rattle.timeline.specs.Laws.Rules.{rules_of}
 use Rattle.timeline.specs.Laws.Columns.{columns}
 use Rattle.cells.specs.Laws.Cells.{before-pos, before-zero}
@@ -9,11 +10,14 @@ use Rattle.timeline_fit.proofs.Gaps.{walk_start, walk_step, walk_end, walk-stop,
 use Rattle.timeline_fit.proofs.earliest_gap.Goals as goal
 use Rattle.timeline_fit.proofs.earliest_gap.Goals.{then-first-gt0, else-first-gt0}
 
+pub shared_ref_as_front-cells_before : goal.shared_ref_as_front-cells_before
+shared_ref_as_front-cells_before c = (rules_of _ c.requires.t_value.0).room
+
 pub cells_before-first-requires : goal.cells_before-first-requires
 cells_before-first-requires c =
     let r = rules_of _ c.requires.t_value.0 in
     let l : length c.args.t.starts ≡ 64 = search rules in
-    (omega (arith, r.room), omega (arith, r.room), (columns _ r).starts)
+    front-rising _ _ (omega (arith, r.room)) (columns _ r).starts
 
 pub offset_bounds-t-first : goal.offset_bounds-t-first
 offset_bounds-t-first c = omega (arith, (rules_of _ c.requires.t_value.0).room)
@@ -24,7 +28,8 @@ bounds-t-first c = omega (arith, (rules_of _ c.requires.t_value.0).room)
 pub loop-i-init : goal.loop-i-init
 loop-i-init c =
     let t = c.args.t in
-    let n = c.cells_before-first.ensures in
+    let l : length t.starts ≡ 64 = search rules in
+    let n = front-before t.starts t.len (omega (arith, (rules_of t c.requires.t_value.0).room)) _ _ c.cells_before-first.ensures in
     let q = c.cells_before-first.result in (
       (rules_of t c.requires.t_value.0).room,
       walk_start _ (plain t c.requires.t_value.0 c.requires.capacity_value) _ _ _ _ c.requires.t_value.1 n.few n.low

@@ -3,7 +3,7 @@ use Rattle.std.specs.Prelude.{◌≡◌, refl, Bool, true, false, List, [], ◌�
 use Rattle.std.proofs.Common.{sym, ap, subst, ◌∙◌, arith}
 use Rattle.calendar.specs.Replies.{Added}
 use Rattle.timeline.specs.declared.ResourceTimeline.{ResourceTimeline}
-use Rattle.timeline.specs.Replies.{Booked}
+use Rattle.timeline.specs.declared.Booked.{Booked}
 use Rattle.timeline.specs.Valid.{valid}
 use Rattle.timeline.specs.Diary.{with_calendar}
 use Rattle.timeline.specs.Book.{calendar_reply}

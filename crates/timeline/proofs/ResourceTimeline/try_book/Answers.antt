@@ -1,4 +1,4 @@
--- `timeline::ResourceTimeline::book` meets its contract: a refusal leaves the diary as it is, and without one the booking goes in.
+-- `timeline::ResourceTimeline::try_book` meets its contract: a refusal leaves the diary as it is, and without one the booking goes in.
 use borrow.Author.Tests.{not-false, ltb-false, leb-false}
 use mathlib.Core.Path.{◌≡◌, sym}
 use mathlib.Core.Bool.{true, not, ◌||◌}
@@ -8,7 +8,7 @@ use Rattle.cells.specs.Laws.Basics.{or_left, or_right, unrefused}
 use Rattle.timeline.specs.declared.ResourceTimeline.{ResourceTimeline}
 use Rattle.timeline.specs.Valid.{valid}
 use Rattle.timeline.specs.Book.{book_refusal}
-use Rattle.timeline.proofs.ResourceTimeline.book.Goals as goal
+use Rattle.timeline.proofs.ResourceTimeline.try_book.Goals as goal
 
 -- what no refusal says of a booking
 record Accepting (t : ResourceTimeline) (s e u : ℕ) : Type 0 where
