@@ -61,7 +61,7 @@ pub fn change(
         }
         Change::Booking => {
             let units = number(bytes, at + 16, 4) as u32;
-            timeline.book(number(bytes, at, 8), number(bytes, at + 8, 8), units)
+            timeline.try_book(number(bytes, at, 8), number(bytes, at + 8, 8), units)
         }
     }
 }
