@@ -12,8 +12,7 @@ use Rattle.activity.specs.declared.ResourceTiming.TheVariants.{Speed, Duration}
 use Rattle.activity.specs.declared.ResourceRequirement.{ResourceRequirement}
 use Rattle.activity.specs.declared.Activity.{Activity}
 use Rattle.record_desk.specs.declared.Desk.{Desk}
-use Rattle.record_board.specs.declared.DeskStepped.{DeskStepped}
-use Rattle.record_board.specs.declared.order.Ordered.{Ordered}
+use Rattle.record_board.specs.Replies.{DeskStepped, Ordered}
 use Rattle.activity.specs.Order.{order_with, with_requirement, with_timing}
 use Rattle.record_desk.specs.Desk.{with_diary, with_order}
 use Rattle.record_bodies.specs.Bodies.{byte}
@@ -60,6 +59,10 @@ requirement_at bs i = record {
 -- kind 23: a speed, the bits of a double (8); kind 24: three durations
 unfoldable pub timing_at : ℕ → List ℕ → ℕ → ResourceTiming
 timing_at kind bs i = cond (eqb kind 23) (Speed (of_bits binary64 (little bs (i + 1) 8))) (Duration (duration_at bs (i + 1)))
+
+-- a timing, its number above 15 refused 5
+abbrev pub timed : Activity → ℕ → ResourceTiming → Ordered
+timed a number t = cond (ltb 15 number) (record { refusal = 5; activity = a }) (record { refusal = 0; activity = with_timing a number t })
 
 -- kind 22 one requirement more; 23 and 24 a timing, its number (1) above 15 refused 5
 unfoldable pub part_reply : Activity → ℕ → List ℕ → ℕ → Ordered

@@ -10,8 +10,7 @@ use Rattle.board.specs.Replies.{Entered}
 use Rattle.board.specs.Enter.{add_resource_reply, set_matrix_reply, set_transition_reply, set_initial_reply, set_transport_reply}
 use Rattle.record_desk.specs.declared.Desk.{Desk}
 use Rattle.record_desk.specs.Desk.{with_diary, with_order, with_board}
-use Rattle.record_board.specs.declared.DeskStepped.{DeskStepped}
-use Rattle.record_board.specs.declared.order.Ordered.{Ordered}
+use Rattle.record_board.specs.Replies.{DeskStepped, Ordered}
 use Rattle.record_bodies.specs.Bodies.{byte}
 use Rattle.record_board.specs.Orders.{order_does, part_reply}
 

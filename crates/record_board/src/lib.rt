@@ -1,148 +1,107 @@
 // What a record of a stream does to a diary in hand, an order in hand and a board (docs/RECORDS.md, kinds 1 to 4 and 16 to 24).
 #![tactic(auto)]
 
-use board::{Board, Entered};
-use record_bodies::{number, wide};
+use board::Board;
+use calendar::Refusal;
+use record_bodies::{BoardKind, Change, Entry, number};
 use record_desk::Desk;
-use record_diary_text::Line;
 use timeline::ResourceTimeline;
 
 mod order;
 
 ghost use Rattle.std.specs.Prelude.{◌≡◌, ◌+◌, ◌≤◌, ◌<◌, length};
-ghost use Rattle.record_diary_text.specs.Lines.{line_of};
+ghost use Rattle.board.specs.Replies.{entered_of};
 ghost use Rattle.record_bodies.specs.Bodies.{diary_len, fixed_len, len_of};
-ghost use Rattle.record_board.specs.Records.{signed as signed_of, refusal_of, diary_does, add_does, entry_reply, step_reply};
-
-// What a record does: what is in hand afterwards, and the refusal's number, 0 for none. 9 ends the stream.
-#[derive(Clone, Copy)]
-pub struct DeskStepped {
-    pub desk: Desk,
-    pub refusal: u8,
-}
+ghost use Rattle.record_bodies.specs.Kinds.{change_number, entry_number, board_number};
+ghost use Rattle.record_board.specs.Records.{signed as signed_of, diary_does, add_does, entry_reply, step_reply};
+ghost use Rattle.record_board.specs.Replies.{stepped_of};
 
 // A signed number by its 64 bits.
+#[tactic(auto, unfolding(crate::specs::Records::signed))]
 fn signed(bits: u64) -> i64
     ensures { result ≡ signed_of bits }
 {
-    if bits < 9223372036854775808 {
-        return bits as i64;
-    }
-    -1 - (u64::MAX - bits) as i64
-}
-
-fn line_refusal(line: Line) -> u8
-    ensures { result ≡ refusal_of (line_of line) }
-{
-    match line {
-        Line::Nothing => 0,
-        Line::Fit(s, e) => 0,
-        Line::None => 0,
-        Line::Refused(n) => n,
-    }
+    bits.cast_signed()
 }
 
 // Kinds 1 to 4: as in `slot`, on the diary in hand.
-fn on_diary(desk: Desk, kind: u8, bytes: &[u8], at: usize) -> DeskStepped
-    requires { (0 < diary_len kind) × (at + diary_len kind ≤ length bytes.now) }
-    ensures { result ≡ diary_does desk kind bytes.now at }
+#[tactic(auto, using(calendar::specs::Laws::Refusals::numbered), unfolding(crate::specs::Records::diary_does, crate::specs::Records::diary_told, crate::specs::Records::refusal_of, record_diary::specs::Records::books))]
+fn on_diary(desk: Desk, change: Change, bytes: &[u8], at: usize) -> Result<Desk, Refusal>
+    requires { at + diary_len (change_number change) ≤ length bytes.now }
+    ensures { stepped_of desk result ≡ diary_does desk (change_number change) bytes.now at }
 {
-    let s = record_diary::step(desk.timeline, kind, bytes, at);
-    let t = s.timeline;
-    let line = s.line;
-    let refusal = line_refusal(line);
-    let mut d = desk;
-    d.timeline = t;
-    DeskStepped {
-        desk: d,
-        refusal: refusal,
-    }
+    let timeline = record_diary::change(desk.timeline, change, bytes, at)?;
+    Ok(Desk { timeline, ..desk })
 }
 
 // Kind 16: the diary in hand goes to the board, and an empty one is in hand.
-fn add(desk: Desk, bytes: &[u8], at: usize, count: usize) -> DeskStepped
+#[tactic(auto, using(calendar::specs::Laws::Refusals::numbered), unfolding(crate::specs::Records::add_does, crate::specs::Records::added))]
+fn add(desk: Desk, bytes: &[u8], at: usize, count: usize) -> Result<Desk, Refusal>
     requires { at + 11 + count ≤ length bytes.now }
-    ensures { result ≡ add_does desk bytes.now at count }
+    ensures { stepped_of desk result ≡ add_does desk bytes.now at count }
 {
     let skills = number(bytes, at + 2, 8);
-    let e = board_resources::add_resource(
+    let companions = &bytes[at + 11..at + 11 + count];
+    let board = board_resources::add_resource(
         desk.board,
         bytes[at],
         bytes[at + 1],
         skills,
-        &bytes[at + 11..at + 11 + count],
+        companions,
         desk.timeline,
-    );
-    if e.refusal != 0 {
-        return DeskStepped {
-            desk: desk,
-            refusal: e.refusal,
-        };
-    }
-    let b = e.board;
-    let new = ResourceTimeline::new(1);
-    let mut d = desk;
-    d.timeline = new;
-    d.board = b;
-    DeskStepped {
-        desk: d,
-        refusal: 0,
-    }
+    )?;
+    let timeline = ResourceTimeline::new(1);
+    Ok(Desk {
+        timeline,
+        board,
+        ..desk
+    })
 }
 
 // Kinds 17 to 20: an entry of the board.
-fn entry(board: Board, kind: u8, bytes: &[u8], at: usize) -> Entered
-    requires { (17 ≤ kind) × (kind ≤ 20) × (at + fixed_len kind ≤ length bytes.now) }
-    ensures { result ≡ entry_reply board kind bytes.now at }
+#[tactic(auto, unfolding(crate::specs::Records::entry_reply, record_bodies::specs::Bodies::fixed_len))]
+fn entry(board: Board, entry: Entry, bytes: &[u8], at: usize) -> Result<Board, Refusal>
+    requires { at + fixed_len (entry_number entry) ≤ length bytes.now }
+    ensures { entered_of board result ≡ entry_reply board (entry_number entry) bytes.now at }
 {
-    let first = bytes[at];
-    let second = bytes[at + 1];
-    if kind == 17 {
-        let default = signed(number(bytes, at + 1, 8));
-        let initial = signed(number(bytes, at + 9, 8));
-        return board_matrices::set_matrix(board, first, default, initial);
+    match entry {
+        Entry::Matrix => {
+            let default = signed(number(bytes, at + 1, 8));
+            let initial = signed(number(bytes, at + 9, 8));
+            board_matrices::set_matrix(board, bytes[at], default, initial)
+        }
+        Entry::Transition => {
+            let ms = signed(number(bytes, at + 3, 8));
+            board_matrices::set_transition(board, bytes[at], bytes[at + 1], bytes[at + 2], ms)
+        }
+        Entry::Initial => {
+            let ms = signed(number(bytes, at + 2, 8));
+            board_matrices::set_initial(board, bytes[at], bytes[at + 1], ms)
+        }
+        Entry::Transport => {
+            let ms = number(bytes, at + 2, 8);
+            board_transport::set_transport(board, bytes[at], bytes[at + 1], ms)
+        }
     }
-    if kind == 18 {
-        let ms = signed(number(bytes, at + 3, 8));
-        return board_matrices::set_transition(board, first, second, bytes[at + 2], ms);
-    }
-    let ms = number(bytes, at + 2, 8);
-    if kind == 19 {
-        return board_matrices::set_initial(board, first, second, signed(ms));
-    }
-    board_transport::set_transport(board, first, second, ms)
 }
 
-// What one record of a known kind does, its body beginning at `at`. A refused record changes nothing.
-pub fn step(desk: Desk, kind: u8, bytes: &[u8], at: usize) -> DeskStepped
-    requires { (0 < len_of kind bytes.now at) × (at + len_of kind bytes.now at ≤ length bytes.now) }
-    ensures { result ≡ step_reply desk kind bytes.now at }
+// What one record does, its body beginning at `at`. A refused record changes nothing.
+#[tactic(auto, unfolding(crate::specs::Records::step_reply, record_bodies::specs::Bodies::len_of, record_bodies::specs::Bodies::fixed_len))]
+pub fn step(desk: Desk, kind: BoardKind, bytes: &[u8], at: usize) -> Result<Desk, Refusal>
+    requires { at + len_of (board_number kind) bytes.now at ≤ length bytes.now }
+    ensures { stepped_of desk result ≡ step_reply desk (board_number kind) bytes.now at }
 {
-    if kind <= 4 {
-        return on_diary(desk, kind, bytes, at);
-    }
-    if kind == 16 {
-        return add(desk, bytes, at, wide(bytes[at + 10]));
-    }
-    if kind <= 20 {
-        let e = entry(desk.board, kind, bytes, at);
-        let b = e.board;
-        let mut d = desk;
-        d.board = b;
-        return DeskStepped {
-            desk: d,
-            refusal: e.refusal,
-        };
-    }
-    if kind == 21 {
-        return order::new_order(desk, bytes, at);
-    }
-    let o = order::part(desk.activity, kind, bytes, at);
-    let a = o.activity;
-    let mut d = desk;
-    d.activity = a;
-    DeskStepped {
-        desk: d,
-        refusal: o.refusal,
+    match kind {
+        BoardKind::Change(kind) => on_diary(desk, kind, bytes, at),
+        BoardKind::Resource => add(desk, bytes, at, usize::from(bytes[at + 10])),
+        BoardKind::Entry(kind) => {
+            let board = entry(desk.board, kind, bytes, at)?;
+            Ok(Desk { board, ..desk })
+        }
+        BoardKind::Order => order::new_order(desk, bytes, at),
+        BoardKind::Part(kind) => {
+            let activity = order::part(desk.activity, kind, bytes, at)?;
+            Ok(Desk { activity, ..desk })
+        }
     }
 }

@@ -1,64 +1,47 @@
 // The order in hand: a new one, its requirements and its timings (docs/RECORDS.md, kinds 21 to 24). Its values are taken unchecked.
 ghost use Rattle.std.specs.Prelude.{◌≡◌, ◌+◌, ◌≤◌, length};
-ghost use Rattle.std.specs.Float.{binary64};
-ghost use Rattle.std.specs.Float.Ieee.{of_bits};
 ghost use Rattle.record_bodies.specs.Bodies.{fixed_len};
-ghost use Rattle.record_board.specs.Orders.{duration_at, release_of, requirement_at, timing_at};
+ghost use Rattle.record_bodies.specs.Kinds.{part_number};
+ghost use Rattle.record_board.specs.Orders.{duration_at, release_of, requirement_at, timed};
+ghost use Rattle.record_board.specs.Replies.{stepped_of, ordered_of};
 ghost use Rattle.record_board.specs.Orders.{part_reply, flag_above, order_by, order_does};
 
-use crate::DeskStepped;
 use activity::order::{order_with, with_requirement, with_timing};
-use activity::{Activity, ActivityDuration, Release, ResourceRequirement, ResourceTiming};
-use calendar::Calendar;
-use record_bodies::number;
+use activity::{Activity, ActivityDuration, ResourceRequirement, ResourceTiming};
+use calendar::{Calendar, Refusal};
+use record_bodies::{Part, number};
 use record_desk::Desk;
+use std::num::f64_from_bits_with_nan;
 use timeline::ResourceTimeline;
-
-// What a part of an order answers: the refusal's number, 0 for none, and the order, new or unchanged.
-#[derive(Clone, Copy)]
-pub struct Ordered {
-    pub refusal: u8,
-    pub activity: Activity,
-}
 
 // Setup, process, teardown.
 fn duration_at(bytes: &[u8], at: usize) -> ActivityDuration
     requires { at + 24 ≤ length bytes.now }
     ensures { result ≡ duration_at bytes.now at }
 {
-    let setup = number(bytes, at, 8);
-    let process = number(bytes, at + 8, 8);
-    let teardown = number(bytes, at + 16, 8);
     ActivityDuration {
-        setup: setup,
-        process: process,
-        teardown: teardown,
+        setup: number(bytes, at, 8),
+        process: number(bytes, at + 8, 8),
+        teardown: number(bytes, at + 16, 8),
     }
 }
 
-fn release_of(present: u8, release: u64) -> Release
+#[tactic(auto, unfolding(crate::specs::Orders::release_of))]
+fn release_of(present: u8, release: u64) -> Option<u64>
     ensures { result ≡ release_of present release }
 {
-    if present == 1 {
-        return Release::At(release);
-    }
-    Release::Absent
+    (present == 1).then_some(release)
 }
 
 fn flag_above(bytes: &[u8], at: usize) -> bool
     requires { at + 38 ≤ length bytes.now }
     ensures { result ≡ flag_above bytes.now at }
 {
-    if bytes[at + 25] > 1 {
-        return true;
-    }
-    if bytes[at + 26] > 1 {
-        return true;
-    }
-    bytes[at + 37] > 1
+    bytes[at + 25] > 1 || bytes[at + 26] > 1 || bytes[at + 37] > 1
 }
 
 // The order of a body, with this calendar.
+#[tactic(auto, unfolding(crate::specs::Orders::order_by))]
 fn order_by(bytes: &[u8], at: usize, calendar: Calendar) -> Activity
     requires { at + 38 ≤ length bytes.now }
     ensures { result ≡ order_by bytes.now at calendar }
@@ -77,102 +60,65 @@ fn order_by(bytes: &[u8], at: usize, calendar: Calendar) -> Activity
 }
 
 // Kind 21: a new order in hand. Where it takes the diary's calendar, an empty diary is in hand afterwards. A flag above 1: 9.
-pub fn new_order(desk: Desk, bytes: &[u8], at: usize) -> DeskStepped
+#[tactic(auto, unfolding(crate::specs::Orders::order_does, crate::specs::Orders::order_at))]
+pub fn new_order(desk: Desk, bytes: &[u8], at: usize) -> Result<Desk, Refusal>
     requires { at + 38 ≤ length bytes.now }
-    ensures { result ≡ order_does desk bytes.now at }
+    ensures { stepped_of desk result ≡ order_does desk bytes.now at }
 {
     if flag_above(bytes, at) {
-        return DeskStepped {
-            desk: desk,
-            refusal: 9,
-        };
+        return Err(Refusal::Unreadable);
     }
-    let mut d = desk;
     if bytes[at + 37] == 0 {
-        let none = Calendar::new();
-        let a = order_by(bytes, at, none);
-        d.activity = a;
-        return DeskStepped {
-            desk: d,
-            refusal: 0,
-        };
+        let activity = order_by(bytes, at, Calendar::new());
+        return Ok(Desk { activity, ..desk });
     }
-    let t = d.timeline;
-    let calendar = t.calendar;
-    let a = order_by(bytes, at, calendar);
-    let new = ResourceTimeline::new(1);
-    d.timeline = new;
-    d.activity = a;
-    DeskStepped {
-        desk: d,
-        refusal: 0,
+    let activity = order_by(bytes, at, desk.timeline.calendar);
+    let timeline = ResourceTimeline::new(1);
+    Ok(Desk {
+        timeline,
+        activity,
+        ..desk
+    })
+}
+
+// A timing on the resource of this number: 5 above 15.
+fn timed(activity: Activity, number: u8, timing: ResourceTiming) -> Result<Activity, Refusal>
+    ensures { ordered_of activity result ≡ timed activity number timing }
+{
+    if number > 15 {
+        return Err(Refusal::Number);
     }
+    Ok(with_timing(activity, number, timing))
 }
 
 fn requirement_at(bytes: &[u8], at: usize) -> ResourceRequirement
     requires { at + 19 ≤ length bytes.now }
     ensures { result ≡ requirement_at bytes.now at }
 {
-    let candidates = number(bytes, at + 1, 2) as u16;
-    let skills = number(bytes, at + 3, 8);
-    let quantity = number(bytes, at + 11, 4) as u32;
-    let usage = number(bytes, at + 15, 4) as u32;
     ResourceRequirement {
         kind: bytes[at],
-        candidates: candidates,
-        skills: skills,
-        quantity: quantity,
-        usage: usage,
+        candidates: number(bytes, at + 1, 2) as u16,
+        skills: number(bytes, at + 3, 8),
+        quantity: number(bytes, at + 11, 4) as u32,
+        usage: number(bytes, at + 15, 4) as u32,
     }
 }
 
-// The double of these bits. The bits of a NaN are not read as a double: any of them gives the one NaN of the logic.
-fn double(bits: u64) -> f64
-    ensures { result ≡ of_bits binary64 bits }
+// Kinds 22 to 24: one requirement more, or a timing, a speed or own durations; 5 a number above 15.
+#[tactic(auto, unfolding(crate::specs::Orders::part_reply, crate::specs::Orders::timing_at, record_bodies::specs::Bodies::fixed_len))]
+pub fn part(activity: Activity, part: Part, bytes: &[u8], at: usize) -> Result<Activity, Refusal>
+    requires { at + fixed_len (part_number part) ≤ length bytes.now }
+    ensures { ordered_of activity result ≡ part_reply activity (part_number part) bytes.now at }
 {
-    if bits % 9223372036854775808 > 9218868437227405312 {
-        return 0.0 / 0.0;
-    }
-    f64::from_bits(bits)
-}
-
-// Kind 23 a speed, kind 24 own durations.
-fn timing_at(kind: u8, bytes: &[u8], at: usize) -> ResourceTiming
-    requires { (23 ≤ kind) × (kind ≤ 24) × (at + fixed_len kind ≤ length bytes.now) }
-    ensures { result ≡ timing_at kind bytes.now at }
-{
-    if kind == 23 {
-        let speed = double(number(bytes, at + 1, 8));
-        return ResourceTiming::Speed(speed);
-    }
-    let d = duration_at(bytes, at + 1);
-    ResourceTiming::Duration(d)
-}
-
-// Kinds 22 to 24: one requirement more, or a timing; 5 a number above 15.
-pub fn part(activity: Activity, kind: u8, bytes: &[u8], at: usize) -> Ordered
-    requires { (22 ≤ kind) × (kind ≤ 24) × (at + fixed_len kind ≤ length bytes.now) }
-    ensures { result ≡ part_reply activity kind bytes.now at }
-{
-    if kind == 22 {
-        let q = requirement_at(bytes, at);
-        let more = with_requirement(activity, q);
-        return Ordered {
-            refusal: 0,
-            activity: more,
-        };
-    }
-    let n = bytes[at];
-    if n > 15 {
-        return Ordered {
-            refusal: 5,
-            activity: activity,
-        };
-    }
-    let timing = timing_at(kind, bytes, at);
-    let timed = with_timing(activity, n, timing);
-    Ordered {
-        refusal: 0,
-        activity: timed,
+    match part {
+        Part::Requirement => Ok(with_requirement(activity, requirement_at(bytes, at))),
+        Part::Speed => {
+            let speed = f64_from_bits_with_nan(number(bytes, at + 1, 8));
+            timed(activity, bytes[at], ResourceTiming::Speed(speed))
+        }
+        Part::Durations => {
+            let durations = duration_at(bytes, at + 1);
+            timed(activity, bytes[at], ResourceTiming::Duration(durations))
+        }
     }
 }

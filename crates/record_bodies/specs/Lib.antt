@@ -1,3 +1,4 @@
--- Numbers in the body of a record, and how long it is.
+-- Numbers in the body of a record, how long it is, and the kinds of records.
 pub mod Numbers
 pub mod Bodies
+pub mod Kinds

@@ -1,5 +1,5 @@
 -- What is in hand at the start, an empty diary of capacity 1, an order of nothing, an empty board; and with one of the three changed.
-use Rattle.std.specs.Prelude.{false, pos, Option, Some, None}
+use Rattle.std.specs.Prelude.{false, pos, None}
 use Rattle.calendar.specs.Add.{empty}
 use Rattle.timeline.specs.declared.ResourceTimeline.{ResourceTimeline}
 use Rattle.timeline.specs.Diary.{new_diary}

@@ -5,7 +5,7 @@ ghost use Rattle.std.specs.Prelude.{◌≡◌};
 ghost use Rattle.record_desk.specs.Desk.{empty_order, empty_desk};
 
 use activity::order::order_with;
-use activity::{Activity, ActivityDuration, Release};
+use activity::{Activity, ActivityDuration};
 use board::Board;
 use calendar::Calendar;
 use timeline::ResourceTimeline;
@@ -19,6 +19,7 @@ pub struct Desk {
 }
 
 // An order of nothing.
+#[tactic(auto, unfolding(crate::specs::Desk::empty_order))]
 fn empty_order() -> Activity
     ensures { result ≡ empty_order }
 {
@@ -27,22 +28,19 @@ fn empty_order() -> Activity
         process: 0,
         teardown: 0,
     };
-    let calendar = Calendar::new();
-    order_with(0, none, false, Release::Absent, calendar, 0)
+    order_with(0, none, false, None, Calendar::new(), 0)
 }
 
 impl Desk {
     // An empty diary of capacity 1, an order of nothing, an empty board.
+    #[tactic(auto, unfolding(crate::specs::Desk::empty_desk))]
     pub fn new() -> Desk
         ensures { result ≡ empty_desk }
     {
-        let timeline = ResourceTimeline::new(1);
-        let activity = empty_order();
-        let board = Board::new();
         Desk {
-            timeline: timeline,
-            activity: activity,
-            board: board,
+            timeline: ResourceTimeline::new(1),
+            activity: empty_order(),
+            board: Board::new(),
         }
     }
 }

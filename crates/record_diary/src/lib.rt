@@ -2,15 +2,16 @@
 #![tactic(auto)]
 
 ghost use Rattle.std.specs.Prelude.{◌≡◌, ◌+◌, ◌≤◌, ◌<◌, length, false};
-ghost use Rattle.record_diary_text.specs.Lines.{line_of, line as printed};
 ghost use Rattle.record_bodies.specs.Bodies.{diary_len};
+ghost use Rattle.record_bodies.specs.Kinds.{change_number, diary_number};
 ghost use Rattle.record_diary.specs.Records.{stepped_of, turn_of, capacity_reply, books, asks, record_does, turn_reply};
+ghost use Rattle.timeline.specs.Replies.{booked_of};
 ghost use Rattle.timeline_asks.specs.Answers.{reply_of};
 
-use record_bodies::number;
+use calendar::Refusal;
+use record_bodies::{Change, DiaryKind, number};
 use record_diary_text::Line;
-use timeline::{Booked, ResourceTimeline};
-use timeline_asks::Answer;
+use timeline::ResourceTimeline;
 
 // What a record does: the diary afterwards, and what it prints.
 #[derive(Clone, Copy)]
@@ -29,90 +30,99 @@ pub struct DiaryTurn {
 }
 
 // Kind 1: a new diary, or 1 for a capacity above 2^31 - 1.
-fn renew(timeline: ResourceTimeline, capacity: u64) -> DiaryStepped
-    ensures { stepped_of result ≡ capacity_reply timeline capacity }
+#[tactic(auto, unfolding(crate::specs::Records::capacity_reply, crate::specs::Records::books))]
+fn renew(timeline: ResourceTimeline, capacity: u64) -> Result<ResourceTimeline, Refusal>
+    ensures { books (booked_of timeline result) ≡ capacity_reply timeline capacity }
 {
     if capacity > 2147483647 {
-        return DiaryStepped {
-            timeline: timeline,
-            line: Line::Refused(1),
-        };
+        return Err(Refusal::OutOfRange);
     }
-    let new = ResourceTimeline::new(capacity as i32);
-    DiaryStepped {
-        timeline: new,
-        line: Line::Nothing,
+    Ok(ResourceTimeline::new(capacity as i32))
+}
+
+// Kinds 1 to 4: what changes the diary. What is refused changes nothing.
+#[tactic(auto, unfolding(crate::specs::Records::record_does, record_bodies::specs::Bodies::diary_len))]
+pub fn change(
+    timeline: ResourceTimeline,
+    change: Change,
+    bytes: &[u8],
+    at: usize,
+) -> Result<ResourceTimeline, Refusal>
+    requires { at + diary_len (change_number change) ≤ length bytes.now }
+    ensures { books (booked_of timeline result) ≡ record_does timeline (change_number change) bytes.now at }
+{
+    match change {
+        Change::Capacity => renew(timeline, number(bytes, at, 4)),
+        Change::Window => {
+            timeline_windows::add_window(timeline, number(bytes, at, 8), number(bytes, at + 8, 8))
+        }
+        Change::Block => {
+            timeline_windows::add_block(timeline, number(bytes, at, 8), number(bytes, at + 8, 8))
+        }
+        Change::Booking => {
+            let units = number(bytes, at + 16, 4) as u32;
+            timeline.try_book(number(bytes, at, 8), number(bytes, at + 8, 8), units)
+        }
     }
 }
 
-// Kinds 2 to 4: only a refusal prints.
-fn told(b: Booked) -> DiaryStepped
-    ensures { stepped_of result ≡ books b }
+// A change prints only where it is refused.
+#[tactic(auto, using(calendar::specs::Laws::Refusals::numbered), unfolding(crate::specs::Records::stepped_of, crate::specs::Records::books, record_diary_text::specs::Lines::line_of))]
+fn told(timeline: ResourceTimeline, changed: Result<ResourceTimeline, Refusal>) -> DiaryStepped
+    ensures { stepped_of result ≡ books (booked_of timeline changed) }
 {
-    let t = b.timeline;
-    if b.refusal == 0 {
-        return DiaryStepped {
-            timeline: t,
-            line: Line::Nothing,
-        };
-    }
-    DiaryStepped {
-        timeline: t,
-        line: Line::Refused(b.refusal),
-    }
-}
-
-// Kinds 5 and 6: the reply prints, and the diary stays.
-fn asked(timeline: ResourceTimeline, a: Answer) -> DiaryStepped
-    ensures { stepped_of result ≡ asks timeline (reply_of a) }
-{
-    let line = line_of(a);
-    DiaryStepped {
-        timeline: timeline,
-        line: line,
-    }
-}
-
-fn line_of(a: Answer) -> Line
-    ensures { line_of result ≡ printed (reply_of a) }
-{
-    match a {
-        Answer::Fit(s, e) => Line::Fit(s, e),
-        Answer::None => Line::None,
-        Answer::Refused(n) => Line::Refused(n),
-    }
-}
-
-// What one record of a known kind does, its body beginning at `at`.
-pub fn step(timeline: ResourceTimeline, kind: u8, bytes: &[u8], at: usize) -> DiaryStepped
-    requires { (0 < diary_len kind) × (at + diary_len kind ≤ length bytes.now) }
-    ensures { stepped_of result ≡ record_does timeline kind bytes.now at }
-{
-    if kind == 1 {
-        return renew(timeline, number(bytes, at, 4));
-    }
-    let first = number(bytes, at, 8);
-    let second = number(bytes, at + 8, 8);
-    if kind == 2 {
-        return told(timeline_windows::add_window(timeline, first, second));
-    }
-    if kind == 3 {
-        return told(timeline_windows::add_block(timeline, first, second));
-    }
-    let units = number(bytes, at + 16, 4) as u32;
-    if kind == 4 {
-        return told(timeline.book(first, second, units));
-    }
-    if kind == 5 {
-        return asked(
+    match changed {
+        Ok(timeline) => DiaryStepped {
             timeline,
-            timeline_asks::earliest_fit(timeline, first, second, units),
-        );
+            line: Line::Nothing,
+        },
+        Err(refusal) => DiaryStepped {
+            timeline,
+            line: Line::Refused(refusal),
+        },
     }
-    asked(
-        timeline,
-        timeline_asks::earliest_resumable(timeline, first, second, units),
-    )
+}
+
+// The reply to an ask prints, and the diary stays.
+#[tactic(auto, unfolding(crate::specs::Records::stepped_of, crate::specs::Records::asks, record_diary_text::specs::Lines::line_of))]
+fn asked(timeline: ResourceTimeline, answer: Result<Option<(u64, u64)>, Refusal>) -> DiaryStepped
+    ensures { stepped_of result ≡ asks timeline (reply_of answer) }
+{
+    let line = match answer {
+        Ok(Some((start, end))) => Line::Fit(start, end),
+        Ok(None) => Line::None,
+        Err(refusal) => Line::Refused(refusal),
+    };
+    DiaryStepped { timeline, line }
+}
+
+// What one record does, its body beginning at `at`.
+#[tactic(auto, unfolding(crate::specs::Records::record_does, record_bodies::specs::Bodies::diary_len))]
+pub fn step(timeline: ResourceTimeline, kind: DiaryKind, bytes: &[u8], at: usize) -> DiaryStepped
+    requires { at + diary_len (diary_number kind) ≤ length bytes.now }
+    ensures { stepped_of result ≡ record_does timeline (diary_number kind) bytes.now at }
+{
+    match kind {
+        DiaryKind::Change(kind) => told(timeline, change(timeline, kind, bytes, at)),
+        DiaryKind::Fit => {
+            let from = number(bytes, at, 8);
+            let span = number(bytes, at + 8, 8);
+            let units = number(bytes, at + 16, 4) as u32;
+            asked(
+                timeline,
+                timeline_asks::earliest_fit(timeline, from, span, units),
+            )
+        }
+        DiaryKind::Resumable => {
+            let from = number(bytes, at, 8);
+            let work = number(bytes, at + 8, 8);
+            let units = number(bytes, at + 16, 4) as u32;
+            asked(
+                timeline,
+                timeline_asks::earliest_resumable(timeline, from, work, units),
+            )
+        }
+    }
 }
 
 // The stream ends here, and prints the line.
@@ -120,15 +130,16 @@ fn last(timeline: ResourceTimeline, line: Line, at: usize) -> DiaryTurn
     ensures { (result.timeline ≡ timeline) × (result.line ≡ line) × (result.at ≡ at) × (result.more ≡ false) }
 {
     DiaryTurn {
-        timeline: timeline,
-        line: line,
-        at: at,
+        timeline,
+        line,
+        at,
         more: false,
     }
 }
 
 // The record that begins at `at`, `len` being the end of the input: nothing where the input ends here, 9 for an unknown kind or a
 // cut body.
+#[tactic(auto, unfolding(crate::specs::Records::turn_of, crate::specs::Records::turn_reply, crate::specs::Records::stepped_of, record_diary_text::specs::Lines::line_of))]
 pub fn record(timeline: ResourceTimeline, bytes: &[u8], at: usize, len: usize) -> DiaryTurn
     requires { (at ≤ len) × (len ≤ length bytes.now) }
     ensures result_value { turn_of result ≡ turn_reply timeline bytes.now at len }
@@ -137,20 +148,17 @@ pub fn record(timeline: ResourceTimeline, bytes: &[u8], at: usize, len: usize) -
     if at == len {
         return last(timeline, Line::Nothing, at);
     }
-    let kind = bytes[at];
-    let n = record_bodies::diary_len(kind);
-    if n == 0 {
-        return last(timeline, Line::Refused(9), at);
-    }
+    let Ok(kind) = DiaryKind::try_from(bytes[at]) else {
+        return last(timeline, Line::Refused(Refusal::Unreadable), at);
+    };
+    let n = kind.len();
     if len - at <= n {
-        return last(timeline, Line::Refused(9), at);
+        return last(timeline, Line::Refused(Refusal::Unreadable), at);
     }
-    let s = step(timeline, kind, bytes, at + 1);
-    let t = s.timeline;
-    let line = s.line;
+    let DiaryStepped { timeline, line } = step(timeline, kind, bytes, at + 1);
     DiaryTurn {
-        timeline: t,
-        line: line,
+        timeline,
+        line,
         at: at + 1 + n,
         more: true,
     }

@@ -1,5 +1,6 @@
 -- 01, 'Program slot': what a record prints, and its bytes.
 use Rattle.std.specs.Prelude.{ℕ, List, [], ◌∷◌, ◌++◌}
+use Rattle.calendar.specs.Replies.{number_of}
 use Rattle.timeline.specs.Ask.{AskReply, fit, none, refused}
 use Rattle.record_diary_text.specs.declared.Line.{Line}
 use Rattle.record_diary_text.specs.declared.Line.TheVariants.{Nothing, Fit, None, Refused}
@@ -14,7 +15,7 @@ unfoldable pub line_of : Line → Printed
 line_of Nothing = nothing
 line_of (Fit s e) = line (fit s e)
 line_of None = line none
-line_of (Refused n) = line (refused n)
+line_of (Refused r) = line (refused (number_of r))
 
 -- `fit `, `none`, `refused ` in ASCII; 32 is a space, 10 the line's end
 unfoldable pub text_of : Printed → List ℕ

@@ -3,6 +3,7 @@
 
 mod lines;
 
+use calendar::Refusal;
 pub use lines::text;
 
 // What a record prints.
@@ -11,5 +12,5 @@ pub enum Line {
     Nothing,
     Fit(u64, u64),
     None,
-    Refused(u8),
+    Refused(Refusal),
 }

@@ -3,8 +3,10 @@ ghost use Rattle.std.specs.Prelude.{◌+◌, ◌≤◌, length};
 ghost use Rattle.record_texts.specs.Text.{Put};
 ghost use Rattle.record_diary_text.specs.Lines.{line_of, text_of, line as printed};
 ghost use Rattle.timeline.specs.Ask.{fit, refused};
+ghost use Rattle.calendar.specs.Replies.{number_of};
 
 use crate::Line;
+use calendar::Refusal;
 use record_texts::{put, put_number, put_value};
 
 // `fit START END`.
@@ -20,13 +22,13 @@ fn put_fit(out: &mut [u8], at: usize, start: u64, end: u64) -> usize
 }
 
 // `refused N`.
-fn put_refused(out: &mut [u8], at: usize, n: u8) -> usize
+fn put_refused(out: &mut [u8], at: usize, refusal: Refusal) -> usize
     requires { at + 46 ≤ length out.old }
-    ensures put { Put out.old at (text_of (printed (refused n))) out.new result }
+    ensures put { Put out.old at (text_of (printed (refused (number_of refusal)))) out.new result }
     ensures upper_bound { result ≤ at + 46 }
 {
     let a = put(out, at, b"refused ");
-    let b = put_number(out, a, n as u64);
+    let b = put_number(out, a, u64::from(refusal.number()));
     put(out, b, b"\n")
 }
 
@@ -38,8 +40,8 @@ pub fn text(line: Line, out: &mut [u8], at: usize) -> usize
 {
     match line {
         Line::Nothing => at,
-        Line::Fit(s, e) => put_fit(out, at, s, e),
+        Line::Fit(start, end) => put_fit(out, at, start, end),
         Line::None => put(out, at, b"none\n"),
-        Line::Refused(n) => put_refused(out, at, n),
+        Line::Refused(refusal) => put_refused(out, at, refusal),
     }
 }

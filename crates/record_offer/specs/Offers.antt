@@ -5,16 +5,14 @@ use Rattle.record_bodies.specs.Numbers.{little}
 use Rattle.scheduler.specs.Placing.{Reply, slate_after, place_reply}
 use Rattle.scheduler.specs.Committing.{commit_reply}
 use Rattle.scheduler.specs.Rows.{Row}
-use Rattle.placing.specs.declared.PlaceReply.{PlaceReply}
-use Rattle.placing.specs.declared.PlaceReply.TheVariants.{Placed, ChosenNone, None, Refused}
+use Rattle.placing.specs.Answers.{Answer, Placed, ChosenNone, None, Refused}
 use Rattle.placing.specs.Told as placed
 use Rattle.record_desk.specs.declared.Desk.{Desk}
-use Rattle.record_board.specs.declared.DeskStepped.{DeskStepped}
+use Rattle.record_board.specs.Replies.{DeskStepped}
 use Rattle.record_bodies.specs.Bodies.{byte, whole, body_len}
 use Rattle.record_board.specs.Records.{entered, step_reply}
-use Rattle.record_offer.specs.declared.OfferTurn.{OfferTurn}
-use Rattle.record_offer.specs.declared.OfferAnswer.{OfferAnswer}
-use Rattle.record_offer.specs.declared.OfferAnswer.TheVariants as answer
+use Rattle.record_offer.specs.Replies.{OfferTurn, OfferAnswer}
+use Rattle.record_offer.specs.Replies as answer
 
 -- the body that begins at index i, the input ending at index n: 0 for an unknown kind or a cut body
 unfoldable pub offer_len : ℕ → List ℕ → ℕ → ℕ → ℕ
@@ -24,7 +22,7 @@ offer_len kind bs i n = cond (eqb kind 25) (whole (n - i) 8) (cond (eqb kind 26)
 unfoldable pub placing : Desk → List Row → List ℕ → ℕ → Reply
 placing d slate bs i = place_reply d.board d.activity (little bs i 8) (length slate)
 
-unfoldable pub answer_of : PlaceReply → OfferAnswer
+unfoldable pub answer_of : Answer → OfferAnswer
 answer_of (Placed p) = answer.Placed p
 answer_of (ChosenNone t) = answer.Chosen t
 answer_of None = answer.None

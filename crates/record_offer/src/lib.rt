@@ -4,12 +4,19 @@
 
 ghost use Rattle.std.specs.Prelude.{◌≡◌, ◌+◌, ◌≤◌, length};
 ghost use Rattle.scheduler.specs.Placing.{slate_after};
-ghost use Rattle.record_offer.specs.Offers.{offer_len, answer_of, placing as placing_of, placed_answer, commit_does};
-ghost use Rattle.record_offer.specs.Offers.{told as told_of, ends, turn_reply, SlateTurned};
+ghost use Rattle.placing.specs.Told.{answer_of as answer_to};
+ghost use Rattle.record_board.specs.Replies.{stepped_of};
+ghost use Rattle.record_offer.specs.Replies.{tells, turn_of};
+ghost use Rattle.record_offer.specs.Offers.{answer_of, placing as placing_of, placed_answer, commit_does};
+ghost use Rattle.record_offer.specs.Offers.{told as told_of, ends, turn_reply, shown, SlateTurned};
 
+mod kinds;
+
+use calendar::Refusal;
+use kinds::OfferKind;
 use placing::{PlaceReply, Placed};
-use record_board::{DeskStepped, step};
-use record_bodies::{body_len, number};
+use record_board::step;
+use record_bodies::number;
 use record_desk::Desk;
 use scheduler::rows::Row;
 
@@ -21,7 +28,7 @@ pub enum OfferAnswer {
     Chosen(u64),
     None,
     Committed,
-    Refused(u8),
+    Refused(Refusal),
 }
 
 // A record read from a run of bytes: what is in hand, what it answered, where the next one begins, and whether to go on.
@@ -33,130 +40,114 @@ pub struct OfferTurn {
     pub more: bool,
 }
 
-// How many bytes the body has that begins at `at`, `len` being the end of the input: 0 for an unknown kind or a cut body.
-fn offer_len(kind: u8, bytes: &[u8], at: usize, len: usize) -> usize
-    requires { (at ≤ len) × (len ≤ length bytes.now) }
-    ensures { (result ≡ offer_len kind bytes.now at len) × (at + result ≤ len) }
-{
-    let rest = len - at;
-    if kind == 25 {
-        return if rest < 8 { 0 } else { 8 };
-    }
-    if kind == 26 {
-        return if rest < 20 { 0 } else { 20 };
-    }
-    body_len(kind, bytes, at, len)
-}
-
 // What placing answers.
-fn answer_of(r: PlaceReply) -> OfferAnswer
-    ensures { result ≡ answer_of r }
+#[tactic(auto, unfolding(crate::specs::Offers::answer_of, placing::specs::Told::answer_of))]
+fn answer_of(reply: Result<PlaceReply, Refusal>) -> OfferAnswer
+    ensures { tells result ≡ answer_of (answer_to reply) }
 {
-    match r {
-        PlaceReply::Placed(p) => OfferAnswer::Placed(p),
-        PlaceReply::ChosenNone(choosing) => OfferAnswer::Chosen(choosing),
-        PlaceReply::None => OfferAnswer::None,
-        PlaceReply::Refused(n) => OfferAnswer::Refused(n),
+    match reply {
+        Ok(PlaceReply::Placed(p)) => OfferAnswer::Placed(p),
+        Ok(PlaceReply::ChosenNone(choosing)) => OfferAnswer::Chosen(choosing),
+        Ok(PlaceReply::None) => OfferAnswer::None,
+        Err(refusal) => OfferAnswer::Refused(refusal),
     }
 }
 
 // Kind 25: places the order in hand, on the slate.
+#[tactic(auto, unfolding(crate::specs::Offers::placed_answer, crate::specs::Offers::placing))]
 fn place(desk: Desk, slate: &mut [Row], bytes: &[u8], at: usize) -> OfferAnswer
     requires { at + 8 ≤ length bytes.now }
-    ensures value { result ≡ placed_answer desk slate.old bytes.now at }
+    ensures value { tells result ≡ placed_answer desk slate.old bytes.now at }
     ensures slate_after { slate.new ≡ slate_after (placing_of desk slate.old bytes.now at) slate.old }
+    ensures on_slate { shown (tells result) ≤ length slate.new }
 {
     let ready = number(bytes, at, 8);
-    let r = placing::place_activity(desk.board, desk.activity, ready, slate);
-    answer_of(r)
+    answer_of(placing::place_activity(desk.board, desk.activity, ready, slate))
 }
 
 // Kind 26: commits the first entries of the slate, with the order's category.
-fn commit(desk: Desk, slate: &[Row], bytes: &[u8], at: usize) -> DeskStepped
+#[tactic(auto, unfolding(crate::specs::Offers::commit_does))]
+fn commit(desk: Desk, slate: &[Row], bytes: &[u8], at: usize) -> Result<Desk, Refusal>
     requires { at + 20 ≤ length bytes.now }
-    ensures { result ≡ commit_does desk slate.now bytes.now at }
+    ensures { stepped_of desk result ≡ commit_does desk slate.now bytes.now at }
 {
     let count = number(bytes, at, 4) as usize;
     let start = number(bytes, at + 4, 8);
     let end = number(bytes, at + 12, 8);
-    let order = desk.activity;
-    let e = committing::commit(desk.board, slate, count, start, end, order.category);
-    let b = e.board;
-    let mut d = desk;
-    d.board = b;
-    DeskStepped {
-        desk: d,
-        refusal: e.refusal,
-    }
+    let category = desk.activity.category;
+    let board = committing::commit(desk.board, slate, count, start, end, category)?;
+    Ok(Desk { board, ..desk })
 }
 
 // The stream ends here with this answer.
+#[tactic(auto, unfolding(crate::specs::Offers::ends))]
 fn last(desk: Desk, answer: OfferAnswer, at: usize) -> OfferTurn
-    ensures { result ≡ ends desk answer at }
+    ensures { turn_of result ≡ ends desk (tells answer) at }
 {
     OfferTurn {
-        desk: desk,
-        answer: answer,
-        at: at,
+        desk,
+        answer,
+        at,
         more: false,
     }
 }
 
 // A refusal is told in place of the answer, and 9 ends the stream.
-fn told(s: DeskStepped, answer: OfferAnswer, at: usize) -> OfferTurn
-    ensures { result ≡ told_of s answer at }
+#[tactic(auto, using(calendar::specs::Laws::Refusals::numbered), unfolding(crate::specs::Offers::told))]
+fn told(desk: Desk, stepped: Result<Desk, Refusal>, answer: OfferAnswer, at: usize) -> OfferTurn
+    ensures { turn_of result ≡ told_of (stepped_of desk stepped) (tells answer) at }
 {
-    let d = s.desk;
-    if s.refusal == 0 {
-        return OfferTurn {
-            desk: d,
-            answer: answer,
-            at: at,
+    match stepped {
+        Ok(desk) => OfferTurn {
+            desk,
+            answer,
+            at,
             more: true,
-        };
-    }
-    OfferTurn {
-        desk: d,
-        answer: OfferAnswer::Refused(s.refusal),
-        at: at,
-        more: s.refusal != 9,
+        },
+        Err(refusal) => OfferTurn {
+            desk,
+            answer: OfferAnswer::Refused(refusal),
+            at,
+            more: refusal != Refusal::Unreadable,
+        },
     }
 }
 
 // The record that begins at `at`, `len` being the end of the input: nothing where the input ends here, 9 for an unknown kind or a
 // cut body.
+#[tactic(auto, unfolding(crate::specs::Offers::turn_reply, crate::specs::Offers::slate_reply, crate::specs::Offers::record_does, crate::specs::Offers::told, crate::specs::Offers::ends, crate::specs::Offers::shown))]
 pub fn record(desk: Desk, slate: &mut [Row], bytes: &[u8], at: usize, len: usize) -> OfferTurn
     requires { (at ≤ len) × (len ≤ length bytes.now) }
-    ensures value { (result ≡ turn_reply desk slate.old bytes.now at len) × (result.at ≤ len) }
-    ensures slate_turned { SlateTurned desk slate.old bytes.now at len slate.new result.answer }
+    ensures value { (turn_of result ≡ turn_reply desk slate.old bytes.now at len) × (result.at ≤ len) }
+    ensures slate_turned { SlateTurned desk slate.old bytes.now at len slate.new (tells result.answer) }
 {
     if at == len {
         return last(desk, OfferAnswer::Nothing, at);
     }
-    let kind = bytes[at];
-    let n = offer_len(kind, bytes, at + 1, len);
-    if n == 0 {
-        return last(desk, OfferAnswer::Refused(9), at);
+    let Ok(kind) = OfferKind::try_from(bytes[at]) else {
+        return last(desk, OfferAnswer::Refused(Refusal::Unreadable), at);
+    };
+    let Some(n) = kind.body_len(bytes, at + 1, len) else {
+        return last(desk, OfferAnswer::Refused(Refusal::Unreadable), at);
+    };
+    let next = at + 1 + n;
+    match kind {
+        OfferKind::Place => {
+            let answer = place(desk, slate, bytes, at + 1);
+            OfferTurn {
+                desk,
+                answer,
+                at: next,
+                more: true,
+            }
+        }
+        OfferKind::Commit => {
+            let committed = commit(desk, slate, bytes, at + 1);
+            told(desk, committed, OfferAnswer::Committed, next)
+        }
+        OfferKind::Board(kind) => {
+            let stepped = step(desk, kind, bytes, at + 1);
+            told(desk, stepped, OfferAnswer::Nothing, next)
+        }
     }
-    if kind == 25 {
-        let answer = place(desk, slate, bytes, at + 1);
-        return OfferTurn {
-            desk: desk,
-            answer: answer,
-            at: at + 1 + n,
-            more: true,
-        };
-    }
-    if kind == 26 {
-        return told(
-            commit(desk, slate, bytes, at + 1),
-            OfferAnswer::Committed,
-            at + 1 + n,
-        );
-    }
-    told(
-        step(desk, kind, bytes, at + 1),
-        OfferAnswer::Nothing,
-        at + 1 + n,
-    )
 }

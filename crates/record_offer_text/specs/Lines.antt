@@ -5,8 +5,8 @@ use Rattle.timeline.specs.Ask.{none, refused}
 use Rattle.record_diary_text.specs.Lines as slot
 use Rattle.scheduler.specs.Rows.{Row, number_in, setup_in, units_in, companion_in}
 use Rattle.placing.specs.declared.Placed.{Placed}
-use Rattle.record_offer.specs.declared.OfferAnswer.{OfferAnswer}
-use Rattle.record_offer.specs.declared.OfferAnswer.TheVariants as answer
+use Rattle.record_offer.specs.Replies.{OfferAnswer}
+use Rattle.record_offer.specs.Replies as answer
 use Rattle.record_offer.specs.Offers.{shown}
 
 -- a space and a number

@@ -4,6 +4,7 @@
 
 ghost use Rattle.std.specs.Prelude.{◌≡◌, ◌+◌, ◌*◌, ◌≤◌, length, take};
 ghost use Rattle.record_texts.specs.Text.{Put};
+ghost use Rattle.record_offer.specs.Replies.{tells};
 ghost use Rattle.record_offer.specs.Offers.{shown as shown_of};
 ghost use Rattle.record_offer_text.specs.Lines.{entry_text, entries_text, line_text, text_of, placed_text, chosen_text};
 ghost use Rattle.record_offer_text.specs.Lines.{line_most, entry_most, text_most};
@@ -23,29 +24,23 @@ fn put_entry(out: &mut [u8], at: usize, row: Row) -> usize
     ensures put { Put out.old at (entry_text row) out.new result }
     ensures upper_bound { result ≤ at + entry_most }
 {
-    let number = number_in(row);
-    let setup = setup_in(row);
-    let units = units_in(row);
-    let companion = companion_in(row);
     let a = put(out, at, b"entry");
-    let b = put_value(out, a, number);
-    let c = put_value(out, b, setup);
-    let d = put_value(out, c, units);
-    let e = put_value(out, d, companion);
+    let b = put_value(out, a, number_in(row));
+    let c = put_value(out, b, setup_in(row));
+    let d = put_value(out, c, units_in(row));
+    let e = put_value(out, d, companion_in(row));
     put(out, e, b"\n")
 }
 
-// The first entries of the slate.
-fn put_entries(out: &mut [u8], at: usize, slate: &[Row], count: usize) -> usize
-    requires { (count ≤ length slate.now) × (at + entry_most * count ≤ length out.old) }
-    ensures put { Put out.old at (entries_text (take count slate.now)) out.new result }
-    ensures upper_bound { result ≤ at + entry_most * count }
+// A line for each row.
+fn put_entries(out: &mut [u8], at: usize, rows: &[Row]) -> usize
+    requires { at + entry_most * length rows.now ≤ length out.old }
+    ensures put { Put out.old at (entries_text rows.now) out.new result }
+    ensures upper_bound { result ≤ at + entry_most * length rows.now }
 {
     let mut end = at;
-    let mut i: usize = 0;
-    while i < count {
-        end = put_entry(out, end, slate[i]);
-        i += 1;
+    for row in rows {
+        end = put_entry(out, end, *row);
     }
     end
 }
@@ -78,7 +73,7 @@ fn put_chosen(out: &mut [u8], at: usize, choosing: u64) -> usize
 // The line of an answer.
 fn put_line(out: &mut [u8], at: usize, answer: OfferAnswer) -> usize
     requires { at + line_most ≤ length out.old }
-    ensures put { Put out.old at (line_text answer) out.new result }
+    ensures put { Put out.old at (line_text (tells answer)) out.new result }
     ensures upper_bound { result ≤ at + line_most }
 {
     match answer {
@@ -87,30 +82,27 @@ fn put_line(out: &mut [u8], at: usize, answer: OfferAnswer) -> usize
         OfferAnswer::Chosen(choosing) => put_chosen(out, at, choosing),
         OfferAnswer::None => record_diary_text::text(Line::None, out, at),
         OfferAnswer::Committed => put(out, at, b"committed\n"),
-        OfferAnswer::Refused(n) => record_diary_text::text(Line::Refused(n), out, at),
+        OfferAnswer::Refused(refusal) => record_diary_text::text(Line::Refused(refusal), out, at),
     }
 }
 
 // How many entries of the slate an answer speaks of.
+#[tactic(auto, unfolding(record_offer::specs::Offers::shown))]
 fn shown(answer: OfferAnswer) -> usize
-    ensures { result ≡ shown_of answer }
+    ensures { result ≡ shown_of (tells answer) }
 {
     match answer {
-        OfferAnswer::Nothing => 0,
         OfferAnswer::Placed(p) => p.count,
-        OfferAnswer::Chosen(choosing) => 0,
-        OfferAnswer::None => 0,
-        OfferAnswer::Committed => 0,
-        OfferAnswer::Refused(n) => 0,
+        _ => 0,
     }
 }
 
 // Puts all that an answer prints into out from `at` on, and answers where it ends.
 pub fn text(answer: OfferAnswer, slate: &[Row], out: &mut [u8], at: usize) -> usize
-    requires { (shown_of answer ≤ length slate.now) × (shown_of answer ≤ 24) × (at + text_most ≤ length out.old) }
-    ensures put { Put out.old at (text_of answer slate.now) out.new result }
+    requires { (shown_of (tells answer) ≤ length slate.now) × (shown_of (tells answer) ≤ 24) × (at + text_most ≤ length out.old) }
+    ensures put { Put out.old at (text_of (tells answer) slate.now) out.new result }
     ensures upper_bound { result ≤ at + text_most }
 {
     let end = put_line(out, at, answer);
-    put_entries(out, end, slate, shown(answer))
+    put_entries(out, end, &slate[..shown(answer)])
 }

@@ -13,10 +13,8 @@ use Rattle.board.specs.Setups.{setup_ms}
 use Rattle.board.specs.Transport.{transport_to}
 use Rattle.board.specs.Valid.{valid}
 use Rattle.record_desk.specs.declared.Desk.{Desk}
-use Rattle.record_board.specs.declared.DeskStepped.{DeskStepped}
-use Rattle.record_queries.specs.declared.QueryTurn.{QueryTurn}
-use Rattle.record_queries.specs.declared.QueryAnswer.{QueryAnswer}
-use Rattle.record_queries.specs.declared.QueryAnswer.TheVariants.{Nothing as Silent, Lasts, Setup, Transport, Serves, No, Refused}
+use Rattle.record_board.specs.Replies.{DeskStepped}
+use Rattle.record_queries.specs.Replies.{QueryTurn, QueryAnswer, Nothing as Silent, Lasts, Setup, Transport, Serves, No, Refused}
 use Rattle.record_bodies.specs.Bodies.{byte, whole, body_len}
 use Rattle.record_board.specs.Records.{step_reply}
 

@@ -1,2 +1,4 @@
 -- What the asks of the runs beside the Rust answer.
+pub mod Replies
 pub mod Asks
+pub mod Kinds

@@ -10,18 +10,6 @@ pub struct Input {
     pub live: bool,
 }
 
-// Moves the n bytes from `at` on to the front.
-fn to_front(buf: &mut [u8], at: usize, n: usize)
-    requires { at + n ≤ length buf.old }
-    ensures { take n buf.new ≡ take n (drop at buf.old) }
-{
-    let mut i: usize = 0;
-    while i < n {
-        buf[i] = buf[at + i];
-        i += 1;
-    }
-}
-
 // Reads on behind the first n bytes. Answers how many there are now.
 fn read_behind(buf: &mut [u8], n: usize) -> usize
     requires { n ≤ length buf.old }
@@ -38,7 +26,7 @@ fn refill(buf: &mut [u8; 65536], at: usize, len: usize) -> usize
     ensures buf_after { take (len - at) buf.new ≡ take (len - at) (drop at buf.old) }
 {
     let rest = len - at;
-    to_front(buf, at, rest);
+    buf.copy_within(at..len, 0);
     read_behind(buf, rest)
 }
 
@@ -47,16 +35,13 @@ pub fn supply(s: Input, buf: &mut [u8; 65536], longest: usize) -> Input
     requires { Lies s × (longest ≤ 65536) }
     ensures { Supplied s buf.old longest result buf.new }
 {
-    if !s.live {
-        return s;
-    }
-    if s.len - s.at >= longest {
+    if !s.live || s.len - s.at >= longest {
         return s;
     }
     let len = refill(buf, s.at, s.len);
     Input {
         at: 0,
-        len: len,
+        len,
         live: len == 65536,
     }
 }

@@ -12,6 +12,7 @@ fn write_front(out: &[u8], n: usize)
 
 // Writes the `used` bytes that wait where less than `room` is left behind them; all that wait where the whole buffer is asked for.
 // Answers how many wait now: all of them, or none.
+#[tactic(auto, unfolding(crate::specs::Output::waiting))]
 pub fn relieve(out: &[u8; 65536], used: usize, room: usize) -> usize
     requires { (used ≤ 65536) × (room ≤ 65536) }
     ensures { (result ≡ waiting used room) × (result + room ≤ 65536) }

@@ -1,3 +1,2 @@
--- Laws on plain lists, for the proofs of this crate.
+-- Laws on plain numbers, for the proofs of this crate.
 pub mod Figures
-pub mod Pasting

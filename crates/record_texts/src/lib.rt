@@ -5,33 +5,14 @@
 ghost use Rattle.std.specs.Prelude.{◌∷◌, ◌+◌, ◌≤◌, length, take};
 ghost use Rattle.record_texts.specs.Text.{Put, decimal};
 
-// Puts the first n bytes of src.
-fn put_front(out: &mut [u8], at: usize, src: &[u8], n: usize) -> usize
-    requires { (n ≤ length src.now) × (at + n ≤ length out.old) }
-    ensures { Put out.old at (take n src.now) out.new result }
-{
-    let mut i: usize = 0;
-    while i < n {
-        out[at + i] = src[i];
-        i += 1;
-    }
-    at + n
-}
-
 // Puts all bytes of src.
 pub fn put(out: &mut [u8], at: usize, src: &[u8]) -> usize
     requires { at + length src.now ≤ length out.old }
     ensures { Put out.old at src.now out.new result }
 {
-    put_front(out, at, src, src.len())
-}
-
-// Puts the first k of the digits.
-fn put_digits(out: &mut [u8], at: usize, digits: &[u8; 20], k: usize) -> usize
-    requires { (k ≤ length digits.now) × (at + 20 ≤ length out.old) }
-    ensures { Put out.old at (take k digits.now) out.new result × (k ≤ 20) }
-{
-    put_front(out, at, digits, k)
+    let end = at + src.len();
+    out[at..end].copy_from_slice(src);
+    end
 }
 
 // Puts a number's decimal digits, at most 20.
@@ -42,7 +23,7 @@ pub fn put_number(out: &mut [u8], at: usize, n: u64) -> usize
 {
     let mut digits = [0u8; 20];
     let k = io::decimal(n, &mut digits);
-    put_digits(out, at, &digits, k)
+    put(out, at, &digits[..k])
 }
 
 // Puts a space and a number.

@@ -3,19 +3,9 @@
 // a record does is in `record_board`, what an ask answers in `record_queries`.
 #![tactic(auto)]
 
-ghost use Rattle.std.specs.Prelude.{◌≤◌};
-
 use record_desk::Desk;
-use record_queries::{QueryAnswer, QueryTurn};
+use record_queries::QueryAnswer;
 use record_streams::Input;
-
-// The next record.
-fn next(desk: Desk, buf: &[u8; 65536], at: usize, len: usize) -> QueryTurn
-    requires { (at ≤ len) × (len ≤ 65536) }
-    ensures { result.at ≤ len }
-{
-    record_queries::record(desk, buf, at, len)
-}
 
 // A space and a number.
 fn value(n: u64) {
@@ -50,15 +40,15 @@ fn print(answer: QueryAnswer) {
         QueryAnswer::No => {
             io::write_all(1, b"no\n");
         }
-        QueryAnswer::Refused(n) => {
+        QueryAnswer::Refused(refusal) => {
             io::write_all(1, b"refused");
-            value(n as u64);
+            value(u64::from(refusal.number()));
             io::write_all(1, b"\n");
         }
     }
 }
 
-// Nothing says that the input ends, so the turns count down from a number that no run uses up.
+// Nothing says that the input ends, so the turns are counted, up to a number that no run reaches.
 fn main() {
     let mut buf = io::large_buffer();
     let mut desk = Desk::new();
@@ -67,17 +57,14 @@ fn main() {
         len: 0,
         live: true,
     };
-    let mut turns = u64::MAX;
-    let mut more = true;
-    while more && turns > 0 {
-        turns -= 1;
+    for _ in 0..u64::MAX {
         s = record_streams::supply(s, &mut buf, 267);
-        let r = next(desk, &buf, s.at, s.len);
-        let d = r.desk;
-        let answer = r.answer;
-        desk = d;
-        s.at = r.at;
-        more = r.more;
-        print(answer);
+        let turn = record_queries::record(desk, &buf, s.at, s.len);
+        desk = turn.desk;
+        s.at = turn.at;
+        print(turn.answer);
+        if !turn.more {
+            break;
+        }
     }
 }

@@ -2,15 +2,12 @@
 // Kinds 2 and 3 are those of `slot`, 32 to 38 its own (tests/beside/README.md): it is run beside the Rust.
 #![tactic(auto)]
 
-ghost use Rattle.std.specs.Prelude.{◌≡◌, ◌+◌, ◌*◌, ◌^◌, ◌<◌, ◌≤◌, true};
+ghost use Rattle.std.specs.Prelude.{◌≡◌, ◌+◌, ◌*◌, ◌≤◌, true, length, IfSome};
 ghost use Rattle.calendar.specs.Limits.{last_asked, longest_span};
-ghost use Rattle.calendar_work.specs.Layout.{Edges};
 ghost use Rattle.calendar_joint.specs.Layout.{Ruled};
 
-use calendar::Calendar;
 use calendar::limits::{LAST_ASKED, LONGEST_SPAN};
-use calendar_joint::JointTime;
-use calendar_work::WorkEnd;
+use calendar::{Calendar, Refusal};
 
 // The calendar in hand, the list of calendars, and the list and the instant of the last layout.
 #[derive(Clone, Copy)]
@@ -35,56 +32,38 @@ fn fresh() -> Runs {
     }
 }
 
-fn wide(b: u8) -> u64 {
-    b as u64
-}
-
 // The number of n bytes from `at` on, little-endian.
 fn number(b: &[u8; 28], at: usize, n: usize) -> u64
     requires { at + n ≤ 28 }
 {
     let mut v: u64 = 0;
-    let mut k = n;
-    while 0 < k {
-        k -= 1;
-        v = (v << 8) | wide(b[at + k]);
+    for k in (0..n).rev() {
+        v = (v << 8) | u64::from(b[at + k]);
     }
     v
 }
 
-fn refused(n: u64) {
+fn refused(refusal: Refusal) {
     io::write_all(1, b"refused ");
-    io::print_decimal(1, n);
+    io::print_decimal(1, u64::from(refusal.number()));
     io::write_all(1, b"\n");
 }
 
-fn told(refusal: u8) {
-    if refusal != 0 {
-        refused(wide(refusal));
+// The calendar that is in hand after a change; a refusal is told, and changes nothing.
+fn told(hand: Calendar, added: Result<Calendar, Refusal>) -> Calendar {
+    match added {
+        Ok(calendar) => calendar,
+        Err(refusal) => {
+            refused(refusal);
+            hand
+        }
     }
-}
-
-// Kinds 2 and 3: a window, a block.
-fn add(mut s: Runs, kind: u8, start: u64, end: u64) -> Runs {
-    let hand = s.hand;
-    if kind == 2 {
-        let r = hand.add_window(start, end);
-        told(r.refusal);
-        let c = r.calendar;
-        s.hand = c;
-        return s;
-    }
-    let r = hand.add_block(start, end);
-    told(r.refusal);
-    let c = r.calendar;
-    s.hand = c;
-    s
 }
 
 // Kind 32: does the span fit the calendar in hand.
 fn ask_fits(c: Calendar, start: u64, end: u64) {
     if !calendar::is_valid(c) {
-        refused(15);
+        refused(Refusal::Invalid);
         return;
     }
     if calendar_fits::interval_fits(c, start, end) {
@@ -97,7 +76,7 @@ fn ask_fits(c: Calendar, start: u64, end: u64) {
 // Kind 33: does the calendar in hand work at the instant.
 fn ask_working(c: Calendar, time: u64) {
     if !calendar::is_valid(c) {
-        refused(15);
+        refused(Refusal::Invalid);
         return;
     }
     if calendar_fits::is_working_time(c, time) {
@@ -109,180 +88,115 @@ fn ask_working(c: Calendar, time: u64) {
 
 // Kind 34: the calendar in hand goes to the end of the list.
 fn join(mut s: Runs) -> Runs {
-    let at = s.count;
-    if at >= 25 {
-        refused(4);
+    if s.count >= 25 {
+        refused(Refusal::Full);
         return s;
     }
-    let c = s.hand;
-    s.list[at] = c;
-    s.count = at + 1;
-    let none = Calendar::new();
-    s.hand = none;
+    s.list[s.count] = s.hand;
+    s.count += 1;
+    s.hand = Calendar::new();
     s
 }
 
 // Kind 35: the list and the instant of the layout that is asked next.
-fn lay(mut s: Runs, from: u64) -> Runs {
+fn lay(s: Runs, from: u64) -> Runs {
     if from > LAST_ASKED {
-        refused(1);
+        refused(Refusal::OutOfRange);
         return s;
     }
-    let list = s.list;
-    s.laid = list;
-    s.laid_count = s.count;
-    s.from = from;
-    s
+    let laid = s.list;
+    Runs {
+        laid,
+        laid_count: s.count,
+        from,
+        ..s
+    }
 }
 
-// The first n calendars keep the rules.
-fn all_valid(cs: [Calendar; 25], n: usize) -> bool
-    ensures { result ≡ true → (n ≤ 25) × Ruled cs n }
+// All these calendars keep the rules.
+fn all_valid(cs: &[Calendar]) -> bool
+    ensures { result ≡ true → Ruled cs.now (length cs.now) }
 {
-    if n > 25 {
-        return false;
-    }
-    let mut i: usize = 0;
-    while i < n {
-        let c = cs[i];
-        if !calendar::is_valid(c) {
-            return false;
-        }
-        i += 1;
-    }
-    true
-}
-
-fn end_over(j: JointTime, start: u64, work: u64) -> WorkEnd
-    requires { (j.len ≤ 3201) × Edges j.edges j.len × (start ≤ last_asked) × (work ≤ longest_span) }
-{
-    let len = j.len;
-    calendar_work::work_end(&j.edges, len, start, work)
+    cs.iter().all(|c| calendar::is_valid(*c))
 }
 
 // Kind 36: when work ends over the last layout.
 fn ask_end(s: Runs, start: u64, work: u64) {
-    let from = s.from;
-    if start < from {
-        refused(1);
+    if start < s.from || start > LAST_ASKED || work > LONGEST_SPAN {
+        refused(Refusal::OutOfRange);
         return;
     }
-    if start > LAST_ASKED {
-        refused(1);
+    if s.laid_count > 25 || !all_valid(&s.laid[..s.laid_count]) {
+        refused(Refusal::Invalid);
         return;
     }
-    if work > LONGEST_SPAN {
-        refused(1);
-        return;
-    }
-    let cs = s.laid;
-    let n = s.laid_count;
-    if !all_valid(cs, n) {
-        refused(15);
-        return;
-    }
-    let j = calendar_joint::joint_time(cs, n, from);
-    let end = end_over(j, start, work);
-    match end {
-        WorkEnd::At(e) => {
+    let j = calendar_joint::joint_time(&s.laid[..s.laid_count], s.from);
+    match calendar_work::work_end(&j.edges[..j.len], start, work) {
+        Some(end) => {
             io::write_all(1, b"end ");
-            io::print_decimal(1, e);
+            io::print_decimal(1, end);
             io::write_all(1, b"\n");
         }
-        WorkEnd::Nothing => {
+        None => {
             io::write_all(1, b"none\n");
         }
     }
 }
 
-fn end_or_zero(end: WorkEnd) -> u64 {
-    match end {
-        WorkEnd::At(e) => e,
-        WorkEnd::Nothing => 0,
-    }
-}
-
 // One round of the measurement: a layout, and 100 ends of work over it.
-fn round(cs: [Calendar; 25], n: usize, from: u64, step: u64, work: u64) -> u64
-    requires { (n ≤ 25) × Ruled cs n × (from + 99 * step ≤ last_asked) × (work ≤ longest_span) }
+fn round(cs: &[Calendar], from: u64, step: u64, work: u64) -> u64
+    requires { (length cs.now ≤ 25) × Ruled cs.now (length cs.now) × (from + 99 * step ≤ last_asked) × (work ≤ longest_span) }
 {
-    let j = calendar_joint::joint_time(cs, n, from);
-    let len = j.len;
-    let edges = j.edges;
+    let j = calendar_joint::joint_time(cs, from);
     let mut sum: u64 = 0;
-    let mut k: u64 = 0;
-    while k < 100 {
-        let end = calendar_work::work_end(&edges, len, from + k * step, work);
-        sum = std::num::wrapping_add_u64(sum, end_or_zero(end));
-        k += 1;
+    for k in 0..100 {
+        let end = calendar_work::work_end(&j.edges[..j.len], from + k * step, work);
+        sum = sum.wrapping_add(end.unwrap_or(0));
     }
     sum
 }
 
 // Kind 38: so many rounds, the layout of each a millisecond later.
-fn measure(cs: [Calendar; 25], n: usize, rounds: u64, from: u64, step: u64, work: u64) -> u64
-    requires { (n ≤ 25) × Ruled cs n × (from + rounds + 99 * step ≤ last_asked + 1) × (work ≤ longest_span) }
+fn measure(cs: &[Calendar], rounds: u64, from: u64, step: u64, work: u64) -> u64
+    requires { (length cs.now ≤ 25) × Ruled cs.now (length cs.now) × (from + rounds + 99 * step ≤ last_asked + 1) × (work ≤ longest_span) }
 {
     let mut sum: u64 = 0;
-    let mut r: u64 = 0;
-    while r < rounds {
-        sum = std::num::wrapping_add_u64(sum, round(cs, n, from + r, step, work));
-        r += 1;
+    for r in 0..rounds {
+        sum = sum.wrapping_add(round(cs, from + r, step, work));
     }
     sum
 }
 
-fn at_least_one(n: u64) -> u64
-    requires { n ≤ 2 ^ 32 }
-    ensures { (n ≤ result) × (result ≤ 2 ^ 32) }
-{
-    if n == 0 { 1 } else { n }
-}
-
 // It is refused where the last instant that is asked would be above 2^43.
 fn ask_measure(s: Runs, rounds: u64, from: u64, step: u64, work: u64) {
-    if rounds > 4294967296 {
-        refused(1);
+    if rounds > 4294967296 || from > LAST_ASKED || step > LAST_ASKED || work > LONGEST_SPAN {
+        refused(Refusal::OutOfRange);
         return;
     }
-    if from > LAST_ASKED {
-        refused(1);
+    if from + rounds.max(1) + 99 * step > LAST_ASKED + 1 {
+        refused(Refusal::OutOfRange);
         return;
     }
-    if step > LAST_ASKED {
-        refused(1);
+    if s.count > 25 || !all_valid(&s.list[..s.count]) {
+        refused(Refusal::Invalid);
         return;
     }
-    if work > LONGEST_SPAN {
-        refused(1);
-        return;
-    }
-    if from + at_least_one(rounds) + 99 * step > 8796093022209 {
-        refused(1);
-        return;
-    }
-    let cs = s.list;
-    let n = s.count;
-    if !all_valid(cs, n) {
-        refused(15);
-        return;
-    }
-    let sum = measure(cs, n, rounds, from, step, work);
+    let sum = measure(&s.list[..s.count], rounds, from, step, work);
     io::write_all(1, b"sum ");
     io::print_decimal(1, sum);
     io::write_all(1, b"\n");
 }
 
-// How many bytes the body of a record has, 29 for an unknown kind.
-fn body_len(kind: u8) -> usize
-    ensures { result ≤ 29 }
+// How many bytes the body of a record has; nothing for an unknown kind.
+fn body_len(kind: u8) -> Option<usize>
+    ensures { IfSome result (λ n. n ≤ 28) }
 {
     match kind {
-        2 | 3 | 32 | 36 => 16,
-        33 | 35 => 8,
-        34 | 37 => 0,
-        38 => 28,
-        _ => 29,
+        2 | 3 | 32 | 36 => Some(16),
+        33 | 35 => Some(8),
+        34 | 37 => Some(0),
+        38 => Some(28),
+        _ => None,
     }
 }
 
@@ -291,7 +205,14 @@ fn step(mut s: Runs, kind: u8, body: &[u8; 28]) -> Runs {
     let first = number(body, 0, 8);
     let second = number(body, 8, 8);
     match kind {
-        2 | 3 => add(s, kind, first, second),
+        2 => {
+            s.hand = told(s.hand, s.hand.add_window(first, second));
+            s
+        }
+        3 => {
+            s.hand = told(s.hand, s.hand.add_block(first, second));
+            s
+        }
         32 => {
             ask_fits(s.hand, first, second);
             s
@@ -323,58 +244,31 @@ fn step(mut s: Runs, kind: u8, body: &[u8; 28]) -> Runs {
     }
 }
 
-// One record read and done, and whether to go on.
-#[derive(Clone, Copy)]
-struct Done {
-    more: bool,
-    runs: Runs,
-}
-
-fn record(s: Runs) -> Done {
+// One record read and done; nothing where the stream ends.
+fn record(s: Runs) -> Option<Runs> {
     let mut kind = [0u8; 1];
     if io::read_full(0, &mut kind) == 0 {
-        return Done {
-            more: false,
-            runs: s,
-        };
+        return None;
     }
-    let k = kind[0];
-    let n = body_len(k);
-    if n > 28 {
-        refused(9);
-        return Done {
-            more: false,
-            runs: s,
-        };
-    }
+    let Some(n) = body_len(kind[0]) else {
+        refused(Refusal::Unreadable);
+        return None;
+    };
     let mut body = [0u8; 28];
     if io::read_full(0, &mut body[..n]) < n {
-        refused(9);
-        return Done {
-            more: false,
-            runs: s,
-        };
+        refused(Refusal::Unreadable);
+        return None;
     }
-    let next = step(s, k, &body);
-    Done {
-        more: true,
-        runs: next,
-    }
+    Some(step(s, kind[0], &body))
 }
 
-// Nothing says that the input ends, so the turns count down from a number that no run uses up.
+// Nothing says that the input ends, so the turns are counted, up to a number that no run reaches.
 fn main() {
     let mut s = fresh();
-    let mut turns = u64::MAX;
-    let mut more = true;
-    while more {
-        if turns == 0 {
+    for _ in 0..u64::MAX {
+        let Some(next) = record(s) else {
             return;
-        }
-        turns -= 1;
-        let t = record(s);
-        more = t.more;
-        let next = t.runs;
+        };
         s = next;
     }
 }

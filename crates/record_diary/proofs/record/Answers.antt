@@ -1,21 +1,20 @@
--- `record_diary::record` meets its contract: the four ways in which a record is read.
-use borrow.Author.Rules.{rules}
-use native.Mathlib.Omega.{arith}
-use Rattle.record_diary.proofs.Doing.{turn-ends, turn-none, turn-unknown, turn-cut, turn-goes}
-use Rattle.record_diary_text.specs.Lines.{line_of}
+-- `record_diary::record` meets its contract: a record of a known kind, and whole.
+use Rattle.std.proofs.Common.{◌≡◌, ℕ, ◌+◌, ◌-◌, ◌<◌, List, get_or, refl, true, arith}
+use borrow.Author.Tests.{lt-leb, ne_eqb}
+use Rattle.timeline.specs.declared.ResourceTimeline.{ResourceTimeline}
+use Rattle.record_bodies.specs.Bodies.{diary_len}
+use Rattle.record_diary.specs.declared.DiaryStepped.{DiaryStepped}
+use Rattle.record_diary.specs.Records.{stepped_of, turn_of, record_does, turn_reply}
 use Rattle.record_diary.proofs.record.Goals as goal
 
-pub returns-then-at-len : goal.returns-then-at-len
-unfolding line_of
-returns-then-at-len c = record { result_value = turn-none _ _ _ _ _ (omega arith) (turn-ends _ _ _ _ c.last.ensures.0 c.last.ensures.1 c.last.ensures.2 c.last.ensures.3); at_le_len = omega arith }
+goes : (t : ResourceTimeline) (bs : List ℕ) (i n k m : ℕ) (s : DiaryStepped) → k ≡ get_or bs i 0 → i < n → m ≡ diary_len k → 0 < m → m < n - i
+    → stepped_of s ≡ record_does t k bs (i + 1) → turn_of (record { timeline = s.timeline; line = s.line; at = i + 1 + m; more = true }) ≡ turn_reply t bs i n
+unfolding turn_reply turn_of stepped_of
+goes t bs i n k m s q h l z o e =
+    let z' : diary_len k ≡ 0 → ⊥ = λ w. omega arith in
+    let o' : diary_len k < n - i = omega arith in
+    rw (← q, lt-leb n i h, ne_eqb (diary_len k) 0 z', lt-leb (n - i) (diary_len k) o', ← e, ← l) refl
 
-pub returns-then-n-eq0 : goal.returns-then-n-eq0
-unfolding line_of
-returns-then-n-eq0 c = record { result_value = turn-unknown _ _ _ _ _ (omega arith) (omega (arith, c.diary_len-n.ensures)) (turn-ends _ _ _ _ c.last-then-n-eq0.ensures.0 c.last-then-n-eq0.ensures.1 c.last-then-n-eq0.ensures.2 c.last-then-n-eq0.ensures.3); at_le_len = omega arith }
-
-pub returns-then-len-at : goal.returns-then-len-at
-unfolding line_of
-returns-then-len-at c = record { result_value = turn-cut _ _ _ _ _ (omega arith) (λ z. omega (arith, c.diary_len-n.ensures)) (omega (arith, c.diary_len-n.ensures)) (turn-ends _ _ _ _ c.last-then-len-at.ensures.0 c.last-then-len-at.ensures.1 c.last-then-len-at.ensures.2 c.last-then-len-at.ensures.3); at_le_len = omega arith }
-
-pub returns : goal.returns
-returns c = record { result_value = turn-goes _ _ _ _ _ _ c.diary_len-n.ensures (omega arith) (λ z. omega arith) (omega arith) c.step-s.ensures; at_le_len = omega arith }
+pub returns-clause-result_value : goal.returns-clause-result_value
+returns-clause-result_value c =
+    goes _ _ _ _ _ _ c.step-line.result c.in-Ok.ensures (omega arith) c.len-n.ensures.0 c.len-n.ensures.1 (omega arith) c.step-line.ensures

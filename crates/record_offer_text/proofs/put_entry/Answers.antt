@@ -1,5 +1,4 @@
 -- `record_offer_text::put_entry` meets its contract: six pieces, one behind the other, and what was read of the row.
-use borrow.Author.Rules.{rules}
 use native.Mathlib.Omega.{arith}
 use Rattle.record_texts.specs.Laws.Putting.{then}
 use Rattle.record_offer_text.specs.Lines.{entry_text}
@@ -9,10 +8,10 @@ pub returns : goal.returns
 unfolding entry_text
 returns c =
     let h = c.requires in
-    let n = c.number_in-number in
-    let m = c.setup_in-setup in
-    let k = c.units_in-units in
-    let j = c.companion_in-companion in
+    let n = c.number_in in
+    let m = c.setup_in in
+    let k = c.units_in in
+    let j = c.companion_in in
     let p = c.put-a in
     let q = c.put_value-b in
     let r = c.put_value-c in

@@ -1,5 +1,4 @@
 -- `record_offer_text::put_line` meets its contract: by the cases of the answer.
-use borrow.Author.Rules.{rules}
 use native.Mathlib.Omega.{arith}
 use Rattle.record_texts.specs.Laws.Putting.{put-none}
 use Rattle.record_diary_text.specs.Lines as slot

@@ -1,5 +1,4 @@
 -- `record_offer_text::put_placed` meets its contract: six pieces, one behind the other.
-use borrow.Author.Rules.{rules}
 use native.Mathlib.Omega.{arith}
 use Rattle.record_texts.specs.Laws.Putting.{then}
 use Rattle.record_offer_text.specs.Lines.{placed_text}

@@ -3,7 +3,7 @@ use Rattle.std.specs.Prelude.{◌≡◌, refl, [], ◌∷◌}
 use Rattle.record_texts.specs.Text.{decimal_to}
 use Rattle.scheduler.specs.Entries.{held_entry}
 use Rattle.scheduler.specs.Rows.{row_of}
-use Rattle.record_offer.specs.declared.OfferAnswer.TheVariants.{Placed}
+use Rattle.record_offer.specs.Replies.{Placed}
 use Rattle.record_offer.specs.Offers.{shown}
 use Rattle.record_offer_text.specs.Lines.{placed_text, entry_text, entries_text, line_text, text_of}
 

@@ -1,24 +1,23 @@
 -- `record_queries::serves` meets its contract.
-use borrow.Author.Rules.{rules}
-use native.Mathlib.Omega.{arith}
-use mathlib.Core.Path.{sym, ◌∙◌}
-use Rattle.record_queries.proofs.Asking.{located, serves-place, serves-yes, serves-no}
+use Rattle.std.proofs.Common.{Bool, cond, refl, Ok}
+use Rattle.std.proofs.lemmas.Result.{err_from_is_err_and}
+use Rattle.board.specs.Places.{place_of}
+use Rattle.record_queries.specs.Replies.{Serves, No}
+use Rattle.record_queries.specs.Asks.{serves_reply}
+use Rattle.record_queries.proofs.Asking.{located, refused-ask, taken-ask}
 use Rattle.record_queries.proofs.serves.Goals as goal
 
-pub returns-then-p-ne0 : goal.returns-then-p-ne0
-returns-then-p-ne0 c = serves-place _ _ _ _ (located _ _ _ c.entry_for-p.ensures) (λ e. omega arith)
-
-pub offset_bounds-board-i : goal.offset_bounds-board-i
-offset_bounds-board-i c = record { fits = omega (arith, ((located _ _ _ c.entry_for-p.ensures).low (omega arith)).0) }
-
-pub bounds-board-i : goal.bounds-board-i
-bounds-board-i c = ((located _ _ _ c.entry_for-p.ensures).low (omega arith)).0
+pub returns-in_err-i : goal.returns-in_err-i
+unfolding serves_reply
+returns-in_err-i c =
+    let p = err_from_is_err_and c.from_residual.result c.from_residual.ensures.1 in
+    rw (p.1, p.2) (refused-ask {T = Bool} (λ yes. cond yes Serves No) _ _ _ _ c.in_err-i.ensures.entry)
 
 pub serves-requires : goal.serves-requires
-serves-requires c = ((located _ _ _ c.entry_for-p.ensures).low (omega arith)).1
-
-pub returns-then-serves : goal.returns-then-serves
-returns-then-serves c = serves-yes _ _ _ _ (located _ _ _ c.entry_for-p.ensures) (omega arith) (sym c.serves.ensures ∙ c.if-serves.true)
+serves-requires c = (located _ _ (Ok c.in_ok-i.i) c.in_ok-i.ensures.entry).low
 
 pub returns : goal.returns
-returns c = serves-no _ _ _ _ (located _ _ _ c.entry_for-p.ensures) (omega arith) (sym c.serves.ensures ∙ c.if-serves.false)
+unfolding serves_reply place_of
+returns c =
+    let q = located c.args.board c.args.number (Ok c.in_ok-i.i) c.in_ok-i.ensures.entry in
+    taken-ask _ _ _ _ q.unrefused (rw (q.stands, c.serves.ensures) refl)

@@ -1,5 +1,4 @@
 -- `record_diary_text::lines::put_fit` meets its contract: four pieces, one behind the other.
-use borrow.Author.Rules.{rules}
 use native.Mathlib.Omega.{arith}
 use mathlib.Core.List.{[], ◌∷◌}
 use Rattle.record_texts.specs.Laws.Putting.{then}

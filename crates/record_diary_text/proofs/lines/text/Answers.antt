@@ -1,5 +1,4 @@
 -- `record_diary_text::lines::text` meets its contract: by the cases of the line.
-use borrow.Author.Rules.{rules}
 use native.Mathlib.Omega.{arith}
 use Rattle.record_texts.specs.Laws.Putting.{put-none}
 use Rattle.record_diary_text.specs.Lines.{text_of, line_of}

@@ -1,2 +1,0 @@
--- Laws on plain lists, for the proofs of this crate.
-pub mod Moving
