@@ -3,9 +3,10 @@ ghost use Rattle.std.specs.Prelude.{◌≤◌};
 
 use crate::random::next;
 use activity::order::order_with;
-use activity::{Activity, ActivityDuration, Release, ResourceRequirement, ResourceTiming, Timed};
+use activity::{Activity, ActivityDuration, ResourceRequirement, ResourceTiming};
 use board::Board;
 use calendar::Calendar;
+use scheduler::Entry;
 use scheduler::rows::{BLANK_ROW, Row, row_of};
 use timeline::ResourceTimeline;
 
@@ -14,16 +15,12 @@ fn any_calendar(x: u64) -> Calendar {
     let c = Calendar::new();
     match x % 4 {
         0 => {
-            let a = c.add_window(0, 3000 + x / 64 % 64);
-            let w = a.calendar;
-            let b = w.add_block(40, 60 + x / 64 % 64);
-            b.calendar
+            let w = c.add_window(0, 3000 + x / 64 % 64).unwrap_or(c);
+            w.add_block(40, 60 + x / 64 % 64).unwrap_or(w)
         }
         1 => {
-            let a = c.add_window(10, 400);
-            let w = a.calendar;
-            let b = w.add_window(400, 900);
-            b.calendar
+            let w = c.add_window(10, 400).unwrap_or(c);
+            w.add_window(400, 900).unwrap_or(w)
         }
         _ => c,
     }
@@ -33,27 +30,21 @@ fn any_calendar(x: u64) -> Calendar {
 fn bookings(x: u64) -> u64
     ensures { result ≤ 64 }
 {
-    if x % 8 == 0 {
-        return 62 + x / 64 % 3;
-    }
-    x % 8
+    if x % 8 == 0 { 62 + x / 64 % 3 } else { x % 8 }
 }
 
 // A diary of capacity 1 to 3 with bookings.
 fn any_diary(x: u64) -> ResourceTimeline {
-    let calendar = any_calendar(x / 4096);
-    let mut t = ResourceTimeline::new((1 + x / 64 % 3) as i32);
-    t.calendar = calendar;
-    let n = bookings(x);
+    let mut t = ResourceTimeline {
+        calendar: any_calendar(x / 4096),
+        ..ResourceTimeline::new((1 + x / 64 % 3) as i32)
+    };
     let mut y = x;
-    let mut k: u64 = 0;
-    while k < n {
+    for _ in 0..bookings(x) {
         y = next(y);
         let start = y % 3000;
-        let b = t.book(start, start + 1 + y / 4096 % 40, (1 + y / 64 % 2) as u32);
-        let more = b.timeline;
-        t = more;
-        k += 1;
+        let booked = t.try_book(start, start + 1 + y / 4096 % 40, (1 + y / 64 % 2) as u32);
+        t = booked.unwrap_or(t);
     }
     t
 }
@@ -65,40 +56,35 @@ fn with_resource(board: Board, k: u64, x: u64) -> Board
     let t = any_diary(next(x));
     let number = (3 * k % 16) as u8;
     let kind = (k % 2) as u8;
-    if x % 3 == 0 {
-        let others: [u8; 2] = [0, (x / 64 % 13) as u8];
-        let n = 1 + x / 4096 % 2;
-        let e = if n == 1 {
-            board_resources::add_resource(board, number, kind, 3, &[0u8], t)
-        } else {
-            board_resources::add_resource(board, number, kind, 3, &others, t)
-        };
-        return e.board;
-    }
-    let none: [u8; 0] = [];
-    let e = board_resources::add_resource(board, number, kind, x / 64, &none, t);
-    e.board
+    let others = [0, (x / 64 % 13) as u8];
+    let added = if x % 3 != 0 {
+        board_resources::add_resource(board, number, kind, x / 64, &others[..0], t)
+    } else if x / 4096 % 2 == 0 {
+        board_resources::add_resource(board, number, kind, 3, &others[..1], t)
+    } else {
+        board_resources::add_resource(board, number, kind, 3, &others, t)
+    };
+    added.unwrap_or(board)
 }
 
 // Matrices on two resources and transport between them.
 fn with_setups(board: Board, x: u64) -> Board {
-    let a = board_matrices::set_matrix(board, 0, (x % 20) as i64, (x / 64 % 20) as i64);
-    let b = board_matrices::set_transition(a.board, 3, (x % 16) as u8, (x / 64 % 16) as u8, 7);
-    let c = board_matrices::set_initial(b.board, 3, (x / 64 % 16) as u8, 5);
-    let d = board_transport::set_transport(c.board, 0, 3, x / 64 % 100);
-    d.board
+    let low = x % 20;
+    let high = x / 64 % 20;
+    let this = (x / 64 % 16) as u8;
+    let a = board_matrices::set_matrix(board, 0, low as i64, high as i64).unwrap_or(board);
+    let b = board_matrices::set_transition(a, 3, (x % 16) as u8, this, 7).unwrap_or(a);
+    let c = board_matrices::set_initial(b, 3, this, 5).unwrap_or(b);
+    board_transport::set_transport(c, 0, 3, x / 64 % 100).unwrap_or(c)
 }
 
 // A board of 3 to 6 resources.
 pub fn any_board(x: u64) -> Board {
-    let n = 3 + x % 4;
     let mut b = Board::new();
     let mut y = x;
-    let mut k: u64 = 0;
-    while k < n {
+    for k in 0..3 + x % 4 {
         y = next(y);
         b = with_resource(b, k, y);
-        k += 1;
     }
     with_setups(b, next(y))
 }
@@ -108,7 +94,7 @@ fn any_requirement(x: u64) -> ResourceRequirement {
     let candidates = if x % 4 == 0 { 73 } else { 0 };
     ResourceRequirement {
         kind: (x / 16 % 2) as u8,
-        candidates: candidates,
+        candidates,
         skills: x / 32 % 2,
         quantity: (1 + x / 64 % 2) as u32,
         usage: (1 + x / 256 % 2) as u32,
@@ -124,25 +110,22 @@ fn any_duration(x: u64) -> ActivityDuration {
     };
     ActivityDuration {
         setup: x / 16 % 8,
-        process: process,
+        process,
         teardown: x / 128 % 8,
     }
 }
 
-fn any_release(x: u64) -> Release {
-    if x % 2 == 0 {
-        return Release::Absent;
-    }
-    Release::At(x / 64 % 100)
+fn any_release(x: u64) -> Option<u64> {
+    (x % 2 != 0).then_some(x / 64 % 100)
 }
 
 fn own_calendar(x: u64) -> Calendar {
     let c = Calendar::new();
     if x % 4 == 0 {
-        let a = c.add_window(x / 64 % 200, 300 + x / 64 % 900);
-        return a.calendar;
+        c.add_window(x / 64 % 200, 300 + x / 64 % 900).unwrap_or(c)
+    } else {
+        c
     }
-    c
 }
 
 // An order with up to three requirements and two timings.
@@ -150,48 +133,34 @@ pub fn any_order(x: u64) -> Activity {
     let y = next(x);
     let z = next(y);
     let duration = any_duration(y);
-    let release = any_release(z);
-    let calendar = own_calendar(next(z));
     let first = any_requirement(x / 8);
     let rest = any_requirement(y / 8);
-    let origins = (z / 128 % 65536) as u16;
     let mut a = order_with(
         (z / 64 % 16) as u8,
         duration,
         z / 4 % 2 == 0,
-        release,
-        calendar,
-        origins,
+        any_release(z),
+        own_calendar(next(z)),
+        (z / 128 % 65536) as u16,
     );
     a.len = (x / 64 % 4) as usize;
-    a.requirements[0] = first;
-    a.requirements[1] = rest;
-    a.requirements[2] = rest;
-    a.requirements[3] = rest;
-    a.timings[0] = Timed {
-        timing: ResourceTiming::Speed(2.0),
-    };
-    a.timings[6] = Timed {
-        timing: ResourceTiming::Duration(duration),
-    };
+    a.requirements = [first, rest, rest, rest];
+    a.timings[0] = ResourceTiming::Speed(2.0);
+    a.timings[6] = ResourceTiming::Duration(duration);
     a
 }
 
 // Rows of a slate that could be committed.
 pub fn any_slate(x: u64) -> [Row; 32] {
-    let mut s: [Row; 32] = [BLANK_ROW; 32];
+    let mut s = [BLANK_ROW; 32];
     let mut y = x;
-    let mut i: usize = 0;
-    while i < 32 {
+    for row in s.iter_mut() {
         y = next(y);
-        let mut e = scheduler::held_entry(
-            (3 * (y % 3)) as u8,
-            y / 64 % 10,
-            (1 + y / 256 % 2) as u32,
-        );
-        e.companion = y / 512 % 2 != 0;
-        s[i] = row_of(e);
-        i += 1;
+        let e = scheduler::held_entry((3 * (y % 3)) as u8, y / 64 % 10, (1 + y / 256 % 2) as u32);
+        *row = row_of(Entry {
+            companion: y / 512 % 2 != 0,
+            ..e
+        });
     }
     s
 }

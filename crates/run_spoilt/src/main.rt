@@ -4,16 +4,16 @@
 #![tactic(auto)]
 
 use activity::Activity;
-use board::{Board, Entered};
+use board::Board;
+use calendar::Refusal;
 use placing::PlaceReply;
 use scheduler::rows::Row;
 
 mod bases;
 mod random;
-mod same;
 mod spoiling;
 
-ghost use Rattle.std.specs.Prelude.{◌≤◌, length};
+ghost use Rattle.std.specs.Prelude.{◌≡◌, ℕ, ◌<◌, ◌≤◌, true, [], slice_index_or};
 
 use random::{next, word};
 
@@ -41,101 +41,85 @@ struct Commitment {
 
 // Counts wrap, which no run comes near.
 fn more(n: u64) -> u64 {
-    std::num::wrapping_add_u64(n, 1)
+    n.wrapping_add(1)
 }
 
 // One fault more unless it is right.
-fn judged(t: Tally, right: bool) -> Tally {
-    let mut r = t;
+fn judged(mut t: Tally, right: bool) -> Tally {
     if !right {
-        r.faults = more(t.faults);
+        t.faults = more(t.faults);
     }
-    r
+    t
 }
 
-fn refused(t: Tally, n: u8) -> Tally {
-    if n > 15 {
-        return judged(t, false);
-    }
-    let mut r = t;
-    r.refused[n as usize] = more(t.refused[n as usize]);
-    r
+// One refusal more of this number.
+fn count(counts: &mut [u64; 16], refusal: Refusal) {
+    let n = usize::from(refusal.number());
+    counts[n] = more(counts[n]);
 }
 
-fn rejected(t: Tally, n: u8) -> Tally {
-    if n > 15 {
-        return judged(t, false);
-    }
-    let mut r = t;
-    r.rejected[n as usize] = more(t.rejected[n as usize]);
-    r
-}
-
-fn told(t: Tally, p: PlaceReply) -> Tally {
-    let mut r = t;
+fn told(mut t: Tally, p: Result<PlaceReply, Refusal>) -> Tally {
     match p {
-        PlaceReply::Placed(placed) => r.placed = more(t.placed),
-        PlaceReply::ChosenNone(choosing) => r.chosen = more(t.chosen),
-        PlaceReply::None => r.nothing = more(t.nothing),
-        PlaceReply::Refused(n) => return refused(t, n),
+        Ok(PlaceReply::Placed(_)) => t.placed = more(t.placed),
+        Ok(PlaceReply::ChosenNone(_)) => t.chosen = more(t.chosen),
+        Ok(PlaceReply::None) => t.nothing = more(t.nothing),
+        Err(refusal) => count(&mut t.refused, refusal),
     }
-    r
-}
-
-fn is_15(p: PlaceReply) -> bool {
-    match p {
-        PlaceReply::Placed(placed) => false,
-        PlaceReply::ChosenNone(choosing) => false,
-        PlaceReply::None => false,
-        PlaceReply::Refused(n) => n == 15,
-    }
+    t
 }
 
 // How many rows of the slate a reply has written.
-fn written(p: PlaceReply) -> usize {
+fn written(p: Result<PlaceReply, Refusal>) -> usize {
     match p {
-        PlaceReply::Placed(placed) => placed.count,
-        PlaceReply::ChosenNone(choosing) => 0,
-        PlaceReply::None => 0,
-        PlaceReply::Refused(n) => 0,
+        Ok(PlaceReply::Placed(placed)) => placed.count,
+        _ => 0,
     }
 }
 
+// The rows from `from` on are the same.
+fn same_rows(a: &[Row; 32], b: &[Row; 32], from: usize) -> bool
+    ensures { result ≡ true → (k : ℕ) → from ≤ k → k < 32 → slice_index_or a.now k [] ≡ slice_index_or b.now k [] }
+{
+    for i in from..32 {
+        if a[i] != b[i] {
+            return false;
+        }
+    }
+    true
+}
+
 // What is committed after a placing: the placement, or rows that were on the slate.
-fn commitment_of(p: PlaceReply, ready: u64, category: u8, x: u64) -> Commitment {
+fn commitment_of(p: Result<PlaceReply, Refusal>, ready: u64, category: u8, x: u64) -> Commitment {
     match p {
-        PlaceReply::Placed(placed) => Commitment {
+        Ok(PlaceReply::Placed(placed)) => Commitment {
             count: placed.count,
             start: placed.start,
             end: placed.end,
-            category: category,
+            category,
         },
         _ => Commitment {
             count: (x % 6) as usize,
             start: ready,
-            end: std::num::wrapping_add_u64(ready, 10),
-            category: category,
+            end: ready.wrapping_add(10),
+            category,
         },
     }
 }
 
 // `n` numbers of a commitment.
-fn spoilt_commitment(c: Commitment, x: u64, n: u64) -> Commitment {
-    let mut r = c;
+fn spoilt_commitment(mut c: Commitment, x: u64, n: u64) -> Commitment {
     let mut y = x;
-    let mut k: u64 = 0;
-    while k < n {
+    for _ in 0..n {
         y = next(y);
         let w = word(next(y));
         match y % 4 {
-            0 => r.count = w as usize,
-            1 => r.start = w,
-            2 => r.end = w,
-            _ => r.category = (w % 256) as u8,
+            0 => c.count = w as usize,
+            1 => c.start = w,
+            2 => c.end = w,
+            _ => c.category = (w % 256) as u8,
         }
-        k += 1;
     }
-    r
+    c
 }
 
 // How many rows of the slate are lent: 24 or more, or fewer.
@@ -148,48 +132,43 @@ fn lent(x: u64) -> usize
     (24 + x / 64 % 9) as usize
 }
 
-// Places on the first `len` rows of a slate.
-fn place_front(b: Board, a: Activity, ready: u64, slate: &mut [Row], len: usize) -> PlaceReply
-    requires { len ≤ length slate.old }
-{
-    placing::place_activity(b, a, ready, &mut slate[..len])
-}
-
 // Places on as many rows as `x` says.
-fn place(b: Board, a: Activity, ready: u64, slate: &mut [Row; 32], x: u64) -> PlaceReply {
-    place_front(b, a, ready, slate, lent(x))
-}
-
-// Commits from the first `len` rows of a slate.
-fn commit_front(b: Board, slate: &[Row], len: usize, c: Commitment) -> Entered
-    requires { len ≤ length slate.now }
-{
-    committing::commit(b, &slate[..len], c.count, c.start, c.end, c.category)
+fn place(
+    b: Board,
+    a: Activity,
+    ready: u64,
+    slate: &mut [Row; 32],
+    x: u64,
+) -> Result<PlaceReply, Refusal> {
+    placing::place_activity(b, a, ready, &mut slate[..lent(x)])
 }
 
 // Commits from as many rows as `x` says.
-fn commit(b: Board, slate: &[Row; 32], x: u64, c: Commitment) -> Entered {
-    commit_front(b, slate, lent(x), c)
+fn commit(b: Board, slate: &[Row; 32], x: u64, c: Commitment) -> Result<Board, Refusal> {
+    committing::commit(b, &slate[..lent(x)], c.count, c.start, c.end, c.category)
 }
 
-// What has to hold of a commitment: 15 exactly where the board breaks the rules; refused, the board as it was; accepted, a board
-// that keeps them.
-fn committed(t: Tally, b: Board, e: Entered, valid: bool) -> Tally {
-    let r = judged(t, (e.refusal == 15) == !valid);
-    if e.refusal == 0 {
-        let mut u = judged(r, board_rules::is_valid(e.board));
-        u.committed = more(u.committed);
-        return u;
+// What has to hold of a commitment: 15 exactly where the board breaks the rules; accepted, a board that keeps them. A refusal has no
+// board to give: the one in hand stays.
+fn committed(t: Tally, e: Result<Board, Refusal>, valid: bool) -> Tally {
+    let mut t = judged(t, matches!(e, Err(Refusal::Invalid)) == !valid);
+    match e {
+        Ok(board) => {
+            t = judged(t, board_rules::is_valid(board));
+            t.committed = more(t.committed);
+        }
+        Err(refusal) => count(&mut t.rejected, refusal),
     }
-    rejected(judged(r, same::same_board(b, e.board)), e.refusal)
+    t
 }
 
 // The ready time: right, or any word.
 fn any_ready(x: u64) -> u64 {
     if x % 16 == 0 {
-        return word(next(x));
+        word(next(x))
+    } else {
+        x / 64 % 500
     }
-    x / 64 % 500
 }
 
 // What is spoilt: 0 the board, 1 the order, 2 the slate, 3 the commitment, 4 all of them.
@@ -205,14 +184,11 @@ fn spoilt_part(x: u64) -> u64 {
 
 // How many cells of a part are spoilt.
 fn cells(x: u64, part: u64) -> u64 {
-    let spoilt = spoilt_part(x);
-    if spoilt == part {
-        return 1 + x / 64 % 3;
+    match spoilt_part(x) {
+        4 => 1,
+        spoilt if spoilt == part => 1 + x / 64 % 3,
+        _ => 0,
     }
-    if spoilt == 4 {
-        return 1;
-    }
-    0
 }
 
 // One board, order, slate and commitment, spoilt.
@@ -227,30 +203,26 @@ fn run(t: Tally, base: Board, order: Activity, x: u64) -> Tally {
     let ready = any_ready(z);
     let p = place(b, a, ready, &mut slate, w);
     let valid = board_rules::is_valid(b);
-    let own = a.calendar;
-    let right = is_15(p) == !(valid && calendar::is_valid(own));
-    let u = judged(told(t, p), right);
-    let v = judged(u, same::same_rows(&before, &slate, written(p)));
+    let invalid = !(valid && calendar::is_valid(a.calendar));
+    let t = judged(told(t, p), matches!(p, Err(Refusal::Invalid)) == invalid);
+    let t = judged(t, same_rows(&before, &slate, written(p)));
     let c = commitment_of(p, ready, a.category, z);
     let e = commit(b, &slate, w, spoilt_commitment(c, w, cells(x, 3)));
-    let mut r = committed(v, b, e, valid);
-    r.runs = more(r.runs);
-    r
+    let mut t = committed(t, e, valid);
+    t.runs = more(t.runs);
+    t
 }
 
 // 200 runs on one board and order.
-fn runs(t: Tally, x: u64) -> Tally {
+fn runs(mut t: Tally, x: u64) -> Tally {
     let base = bases::any_board(x);
     let order = bases::any_order(next(x));
-    let mut r = t;
     let mut y = x;
-    let mut k: u64 = 0;
-    while k < 200 {
+    for _ in 0..200 {
         y = next(y);
-        r = run(r, base, order, y);
-        k += 1;
+        t = run(t, base, order, y);
     }
-    r
+    t
 }
 
 fn line(word: &[u8], n: u64) {
@@ -262,15 +234,13 @@ fn line(word: &[u8], n: u64) {
 
 // The refusals that came, by their number.
 fn refusals(word: &[u8], counts: [u64; 16]) {
-    let mut i: usize = 1;
-    while i < 16 {
+    for i in 1..16 {
         if counts[i] > 0 {
             io::write_all(1, word);
             io::write_all(1, b" ");
             io::print_decimal(1, i as u64);
             line(b":", counts[i]);
         }
-        i += 1;
     }
 }
 
@@ -279,11 +249,9 @@ fn print(t: Tally) {
     line(b"placed", t.placed);
     line(b"chosen, none", t.chosen);
     line(b"none", t.nothing);
-    let refused = t.refused;
-    refusals(b"placing refused", refused);
+    refusals(b"placing refused", t.refused);
     line(b"committed", t.committed);
-    let rejected = t.rejected;
-    refusals(b"committing refused", rejected);
+    refusals(b"committing refused", t.rejected);
     if t.faults == 0 {
         io::write_all(1, b"no fault\n");
     } else {
@@ -303,11 +271,9 @@ fn main() {
         faults: 0,
     };
     let mut x: u64 = 88172645463325252;
-    let mut k: u64 = 0;
-    while k < 500 {
+    for _ in 0..500 {
         x = next(x);
         t = runs(t, x);
-        k += 1;
     }
     print(t);
 }

@@ -37,14 +37,11 @@ fn edge(x: u64) -> u64 {
 // A word: a small one, an edge, or any.
 pub fn word(x: u64) -> u64 {
     let y = next(x);
-    let sort = x % 8;
-    if sort < 4 {
-        return y % 24;
+    match x % 8 {
+        0..=3 => y % 24,
+        4..=6 => edge(y),
+        _ => next(y),
     }
-    if sort < 7 {
-        return edge(y);
-    }
-    next(y)
 }
 
 // A word as an entry of a matrix; a number below 0 stands for a word from 2^63 on.
@@ -84,7 +81,8 @@ pub fn cell(x: u64) -> usize
     ensures { result < 32 }
 {
     if x % 2 == 0 {
-        return 0;
+        0
+    } else {
+        (x / 64 % 32) as usize
     }
-    (x / 64 % 32) as usize
 }

@@ -1,2 +1,0 @@
--- Laws on plain values, for the proofs of this crate.
-pub mod Fields

@@ -1,9 +1,0 @@
--- `run_spoilt::spoilt_commitment` is safe and ends: the count rises to n.
-use Rattle.std.proofs.Common.{◌-◌, ◌≤◌, arith, rules}
-use Rattle.run_spoilt.proofs.spoilt_commitment.Given as goal
-
-abbrev pub invariant-loop-k : goal.invariant-loop-k
-invariant-loop-k l = l.k ≤ l.n
-
-abbrev pub decreases-loop-k : goal.decreases-loop-k
-decreases-loop-k l = l.n - l.k
