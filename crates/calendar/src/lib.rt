@@ -121,16 +121,16 @@ impl Calendar {
         }
     }
 
-    // Adds a window, or refuses: 15 a calendar that breaks the rules, 1 an instant, 2 end at or before start, 4 a 33rd.
+    // Adds a window, or refuses: `Invalid` a calendar that breaks the rules, `OutOfRange` an instant, `EmptySpan` an end at or before
+    // start, `Full` a 33rd.
     #[tactic(auto, unfolding(crate::specs::Add::add_window, crate::specs::Add::added))]
     pub fn add_window(self, start: u64, end: u64) -> Result<Calendar, Refusal>
         ensures value { added_of self result ≡ add_window self start end }
         ensures calendar_value { IfOk result (λ c. valid self ≡ true → valid c ≡ true) }
     {
-        let blocks = self.blocks;
         check_span(self, self.windows.len, start, end)?;
         let windows = with_span(self.windows, start, end);
-        Ok(Calendar { windows, blocks })
+        Ok(Calendar { windows, ..self })
     }
 
     // Adds a block, or refuses, as for a window.
@@ -139,9 +139,8 @@ impl Calendar {
         ensures value { added_of self result ≡ add_block self start end }
         ensures calendar_value { IfOk result (λ c. valid self ≡ true → valid c ≡ true) }
     {
-        let windows = self.windows;
         check_span(self, self.blocks.len, start, end)?;
         let blocks = with_span(self.blocks, start, end);
-        Ok(Calendar { windows, blocks })
+        Ok(Calendar { blocks, ..self })
     }
 }

@@ -44,7 +44,7 @@ pub struct Booked {
 fn cell_right(s: u64, e: u64, u: u32, l: u64, ps: u64, pl: u64) -> bool
     ensures { result ≡ cell_right s e u l ps pl }
 {
-    s < e && e <= LAST_INSTANT && 1 <= u && u <= MOST_UNITS && ps <= s && l == pl.max(e)
+    s < e && e <= LAST_INSTANT && (1..=MOST_UNITS).contains(&u) && ps <= s && l == pl.max(e)
 }
 
 #[tactic(auto, unfolding(crate::specs::Valid::cell_empty))]
@@ -141,7 +141,7 @@ fn check_booking(t: ResourceTimeline, start: u64, end: u64, units: u32) -> Resul
     if end <= start {
         return Err(Refusal::EmptySpan);
     }
-    if units < 1 || units > MOST_UNITS {
+    if !(1..=MOST_UNITS).contains(&units) {
         return Err(Refusal::Units);
     }
     if t.len >= 64 {
@@ -167,7 +167,8 @@ impl ResourceTimeline {
         }
     }
 
-    // Books, or refuses: 15 a diary that breaks the rules, 1 an instant, 2 end at or before start, 3 units, 4 a 65th.
+    // Books, or refuses by the paper's number: 15 a diary that breaks the rules, 1 an instant, 2 end at or before start, 3 units, 4 a
+    // 65th.
     pub fn book(self, start: u64, end: u64, units: u32) -> Booked
         ensures value { result ≡ book_reply self start end units }
         ensures timeline_value { valid self ≡ true → valid result.timeline ≡ true }

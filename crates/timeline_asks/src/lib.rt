@@ -19,7 +19,7 @@ fn check_ask(from: u64, span: u64, units: u32) -> Result<(), Refusal>
     if from > LAST_ASKED || span > LONGEST_SPAN {
         return Err(Refusal::OutOfRange);
     }
-    if units < 1 || units > MOST_UNITS {
+    if !(1..=MOST_UNITS).contains(&units) {
         return Err(Refusal::Units);
     }
     Ok(())

@@ -28,24 +28,12 @@ fn units_over(t: &ResourceTimeline, first: usize, s: u64, e: u64) -> u64
     sum
 }
 
-// The load at instant p of the span [s, e). None before cell `first` is on then, nor any from the first on that starts after p.
+// The load at instant p of the span [s, e): the units of those that overlap the one millisecond from p on, and start before e.
 fn load_at(t: &ResourceTimeline, first: usize, s: u64, e: u64, p: u64) -> u64
     requires { From t.now.starts t.now.ends t.now.units t.now.len first s × (s ≤ p) }
     ensures { result ≡ load (bookings t.now) s e p }
 {
-    let mut sum = 0;
-    for i in first..t.len {
-        if t.starts[i] >= e {
-            break;
-        }
-        if t.starts[i] > p {
-            break;
-        }
-        if p < t.ends[i] {
-            sum += t.units[i] as u64;
-        }
-    }
-    sum
+    units_over(t, first, p, if p < e { p + 1 } else { e })
 }
 
 // The load at s and at each booking start inside [s, e) leaves room: it rises nowhere else.

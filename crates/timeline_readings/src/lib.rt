@@ -23,7 +23,7 @@ fn checked(timeline: ResourceTimeline, n: u64) -> Result<u64, Refusal>
 pub fn capacity(timeline: ResourceTimeline) -> Result<u64, Refusal>
     ensures { read_of result ≡ capacity_read timeline }
 {
-    checked(timeline, timeline.capacity as u64)
+    checked(timeline, u64::from(timeline.capacity))
 }
 
 // The booked total, or refuses: 15 a diary that breaks the rules.

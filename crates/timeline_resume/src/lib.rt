@@ -23,6 +23,7 @@ fn first_resumable(t: ResourceTimeline, from: u64, work: u64, units: u32) -> Opt
     let m = calendar_joint::working_time(t.calendar, &mut edges);
     let mut listed = [0; 129];
     let n = timeline_candidates::start_candidates(t, from, &mut listed);
+    // By index: the lemmas of the search speak of a candidate by its place in the whole list; with `&listed[..n]` the proof did not close.
     for i in 0..n {
         let at = listed[i];
         if let Some(end) = calendar_work::work_end(&edges[..m], at, work) {

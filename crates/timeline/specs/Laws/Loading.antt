@@ -1,6 +1,6 @@
 -- The load of a span: how it adds up, that it is greatest at the span's start or at a booking's, and 'free' as facts.
 use Rattle.std.specs.Prelude.{◌≡◌, refl, Bool, true, false, ◌&&◌, cond, List, [], ◌∷◌, ◌⊎◌, ℕ, zero, suc, ◌+◌, ◌-◌, ◌≤◌, ◌<◌, max, get_or, length, leb, ltb}
-use Rattle.std.proofs.Common.{inl, inr, ⊎_elim, arith, leb-true, ltb-true, le-leb, lt-ltb}
+use Rattle.std.proofs.Common.{inl, inr, ⊎_elim, arith, le_antisymm, leb-true, ltb-true, le-leb, lt-ltb}
 use Rattle.cells.specs.Laws.Basics.{and_split, no_way, not-both, lt-or-ge}
 use Rattle.cells.specs.Laws.Every.{from_at, from_all}
 use Rattle.timeline.specs.Bookings.{Booking}
@@ -164,3 +164,15 @@ free-over cap bs u s e room q h =
       few = omega arith;
       fits = λ p w. omega (arith, tally-le (λ b. on_at b s e p) (λ b. overlaps b s e) bs (λ k l t. (and_split (overlaps (get_or bs k none) s e) _ t).0));
     })
+
+-- the load at an instant: what overlaps the millisecond from it on, up to the span's end
+pub load-over : (bs : List Booking) (s e p z : ℕ) → s ≤ p → z ≤ e → z ≤ p + 1 → e ≤ z ⊎ p + 1 ≤ z → overlapping bs p z ≡ load bs s e p
+unfolding load overlapping overlaps on_at
+load-over bs s e p z h k l m = le_antisymm
+    (tally-le _ _ bs (λ i j t. let g = and_split (ltb (get_or bs i none).start z) _ t in
+      let a = ltb-true _ _ g.0 in
+      let b = ltb-true _ _ g.1 in
+      is-on (get_or bs i none) s e p (record { starts = omega arith; ends = omega arith; from = omega arith; to = b })))
+    (tally-le _ _ bs (λ i j t. let f = on (get_or bs i none) s e p t in
+      let a : (get_or bs i none).start < z = ⊎_elim (λ (q : e ≤ z). omega (arith, f.starts)) (λ (q : p + 1 ≤ z). omega (arith, f.from)) m in
+      simp (lt-ltb _ _ a, lt-ltb _ _ f.to)))
