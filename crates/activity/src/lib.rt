@@ -35,6 +35,7 @@ pub struct ResourceRequirement {
 
 // 01: order. `release` is the earliest start of the order's own, where it has one, `origins` is the 16-bit set of the places come from,
 // `timings` go by resource number, and the first `len` requirements count. No windows and no blocks: an order without a calendar.
+// A length beside the cells, and no slice: an order is a plain value, and a length of 5 stands for any above.
 #[derive(Clone, Copy)]
 pub struct Activity {
     pub category: u8,

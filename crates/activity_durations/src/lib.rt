@@ -17,7 +17,7 @@ fn held_right(held: [u8; 8], count: usize) -> bool
 }
 
 // The order's durations over the first `count` resources held, or refuses: its calendar, a number held, then as
-// `activity_checks::refusal` at ready 0.
+// `activity_checks::refusal` at ready 0. (An array and a count, and no slice of it: a count above 8 is refused here.)
 pub fn duration_on(
     activity: Activity,
     held: [u8; 8],

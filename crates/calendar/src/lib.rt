@@ -14,7 +14,7 @@ ghost use Rattle.calendar.specs.Add.{add_refusal, with_span, empty, add_window, 
 use limits::LAST_INSTANT;
 pub use refusal::Refusal;
 
-// Up to 32 spans [start, end), the cells past `len` 0.
+// Up to 32 spans [start, end), the cells past `len` 0. (Arrays with a length: no heap is used, and 15 speaks of the cells past it.)
 #[derive(Clone, Copy, PartialEq, Eq)]
 pub struct TimeWindows {
     pub starts: [u64; 32],

@@ -5,7 +5,7 @@ use Rattle.board.specs.declared.Board.{Board}
 use Rattle.board.specs.Valid.{valid}
 use Rattle.board.specs.Places.{Known, Lengths}
 use Rattle.scheduler.specs.Rows.{Row, number_in, units_in}
-use Rattle.scheduler.specs.Committing.{Line, lines_of, entries_on, lines_refusal}
+use Rattle.scheduler.specs.Committing.{Line, lines_of, entries_on, lines_refusal, commit_refusal}
 
 -- the row names a number that has a place
 unfoldable pub numbered : List ℕ → Row → Bool
@@ -27,3 +27,10 @@ Counted slate n tally = (k : ℕ) → k < 16 → get_or tally k 0 ≡ entries_on
 abbrev pub RowsRefusal : List ℕ → List ℕ → List Line → ℕ → ℕ → ℕ → ℕ → Type 0
 RowsRefusal places lens ls start end category r =
     (b : Board) → valid b ≡ true → Known b places → Lengths b lens → r ≡ lines_refusal b ls start end category
+
+-- r is the refusal of a commitment of the first `count` rows, on any board that keeps the rules or not, as `right` says, and has
+-- these places and as many bookings where it keeps them
+abbrev pub CommitRefusal : Bool → List ℕ → List ℕ → List Row → ℕ → ℕ → ℕ → ℕ → ℕ → Type 0
+CommitRefusal right places lens slate count start end category r =
+    (b : Board) → right ≡ valid b → (valid b ≡ true → Known b places × Lengths b lens)
+    → r ≡ commit_refusal b slate count start end category

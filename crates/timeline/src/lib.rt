@@ -17,7 +17,8 @@ ghost use Rattle.timeline.specs.Replies.{booked_of};
 ghost use Rattle.calendar.specs.Replies.{refused};
 
 // 01: diary. The booking in cell i is starts[i], ends[i], units[i], and latest[i] the latest end of cells 0 to i (the Rust's
-// latest_end_to). Cells past `len` are 0. No windows and no blocks: a diary without a calendar.
+// latest_end_to). Cells past `len` are 0. No windows and no blocks: a diary without a calendar. (Arrays with a length, and no list of
+// bookings: 01, 'What form to use where', names this form.)
 #[derive(Clone, Copy, PartialEq, Eq)]
 pub struct ResourceTimeline {
     pub capacity: u32,

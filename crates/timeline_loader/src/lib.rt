@@ -29,7 +29,8 @@ fn add_one(c: Calendar, block: bool, w: TimeWindow) -> Result<Calendar, Refusal>
     }
 }
 
-// Adds the records of a run, as blocks or as windows: all of them, or none and the number of the first bad one.
+// Adds the records of a run, as blocks or as windows: all of them, or none and the number of the first bad one. (A flag, and no closure:
+// the two calls are the calendar's own.)
 pub fn add_run(c: Calendar, block: bool, run: &[TimeWindow]) -> Result<Calendar, Refusal>
     ensures { added_of c result ≡ add_run c block run.now }
 {

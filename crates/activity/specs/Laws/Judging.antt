@@ -1,8 +1,9 @@
--- What an order that is not refused keeps, and the other way round.
+-- The refusals of an order one by one, and what an order that is not refused keeps, and the other way round.
 use Rattle.std.specs.Prelude.{◌≡◌, ℕ, ◌^◌, ◌<◌, ◌≤◌, Bool, true, false, cond, not, ◌&&◌, ◌||◌, ltb, leb, List, ◌∷◌, length, get_or, take, nat_le, nat_lt, slice_index, slice_index_or}
 use Rattle.std.proofs.Math.Path.{refl, sym}
 use Rattle.std.proofs.Common.{subst, arith, get_or-take}
-use borrow.Author.Tests.{le-ltb, le-leb, leb-true, ltb-false, not-false}
+use Rattle.std.proofs.Math.Bool.{and-false}
+use borrow.Author.Tests.{lt-ltb, lt-leb, le-ltb, le-leb, leb-true, ltb-false, not-false}
 use Rattle.cells.specs.Laws.Basics.{and_split, and-join, or_left, or_right, unrefused}
 use Rattle.activity.specs.declared.ActivityDuration.{ActivityDuration}
 use Rattle.activity.specs.declared.ResourceTiming.{ResourceTiming}
@@ -24,14 +25,58 @@ abbrev all_speeds : Activity → Bool
 all_speeds a = every timing_speed a.timings
 
 module _ (a : Activity) (ready : ℕ) where
-  times-right : ready ≤ 2 ^ 42 → release_right a.release ≡ true → short a.duration ≡ true → all_short a ≡ true → times_right a ready ≡ true
+  -- 1: each part of `times_right` by itself
+  pub late-ready : 2 ^ 42 < ready → times_right a ready ≡ false
+  unfolding times_right
+  late-ready h = rw (lt-leb ready (2 ^ 42) h) refl
+
+  pub late-release : release_right a.release ≡ false → times_right a ready ≡ false
+  unfolding times_right
+  late-release e = rw e (and-false (nat_le ready (2 ^ 42)))
+
+  pub long-base : short a.duration ≡ false → times_right a ready ≡ false
+  unfolding times_right
+  long-base e = rw (e, and-false (release_right a.release)) (and-false (nat_le ready (2 ^ 42)))
+
+  pub long-timing : all_short a ≡ false → times_right a ready ≡ false
+  unfolding times_right
+  long-timing e = rw (e, and-false (short a.duration), and-false (release_right a.release)) (and-false (nat_le ready (2 ^ 42)))
+
+  pub times-right : ready ≤ 2 ^ 42 → release_right a.release ≡ true → short a.duration ≡ true → all_short a ≡ true → times_right a ready ≡ true
   unfolding times_right
   times-right h r s t = rw (le-leb ready (2 ^ 42) h, r, s, t) refl
 
-  not-refused : a.category ≤ 15 → times_right a ready ≡ true → a.len ≤ 4 → quantities_right (requirements_of a) ≡ true → every usage_right (requirements_of a) ≡ true → all_speeds a ≡ true
-      → 0 ≡ activity_refusal a ready
+  pub refused-5 : 15 < a.category → 5 ≡ activity_refusal a ready
   unfolding activity_refusal
-  not-refused g t l q u e = sym (rw (le-ltb 15 a.category g, t, le-ltb 4 a.len l, q, u, e) refl)
+  refused-5 h = sym (rw (lt-ltb 15 a.category h) refl)
+
+  module _ (g : a.category ≤ 15) where
+    pub refused-1 : times_right a ready ≡ false → 1 ≡ activity_refusal a ready
+    unfolding activity_refusal
+    refused-1 e = sym (rw (le-ltb 15 a.category g, e) refl)
+
+    module _ (t : times_right a ready ≡ true) where
+      pub refused-6 : 4 < a.len → 6 ≡ activity_refusal a ready
+      unfolding activity_refusal
+      refused-6 h = sym (rw (le-ltb 15 a.category g, t, lt-ltb 4 a.len h) refl)
+
+      module _ (l : a.len ≤ 4) where
+        pub refused-6-quantity : quantities_right (requirements_of a) ≡ false → 6 ≡ activity_refusal a ready
+        unfolding activity_refusal
+        refused-6-quantity e = sym (rw (le-ltb 15 a.category g, t, le-ltb 4 a.len l, e) refl)
+
+        module _ (q : quantities_right (requirements_of a) ≡ true) where
+          pub refused-3 : every usage_right (requirements_of a) ≡ false → 3 ≡ activity_refusal a ready
+          unfolding activity_refusal
+          refused-3 e = sym (rw (le-ltb 15 a.category g, t, le-ltb 4 a.len l, q, e) refl)
+
+          pub refused-8 : every usage_right (requirements_of a) ≡ true → all_speeds a ≡ false → 8 ≡ activity_refusal a ready
+          unfolding activity_refusal
+          refused-8 u e = sym (rw (le-ltb 15 a.category g, t, le-ltb 4 a.len l, q, u, e) refl)
+
+          pub not-refused : every usage_right (requirements_of a) ≡ true → all_speeds a ≡ true → 0 ≡ activity_refusal a ready
+          unfolding activity_refusal
+          not-refused u e = sym (rw (le-ltb 15 a.category g, t, le-ltb 4 a.len l, q, u, e) refl)
 
 short-says : (d : ActivityDuration) → short d ≡ true → Short d
 unfolding short

@@ -19,3 +19,6 @@ module _ (qs : List ResourceRequirement) (i : ℕ) where
 module _ (qs : List ResourceRequirement) (n i : ℕ) where
   pub quantity-step : i < n → n ≤ length qs → quantity (drop i (take n qs)) ≡ (slice_index_or qs i no_requirement).quantity + quantity (drop (i + 1) (take n qs))
   quantity-step lt le = rw (← get_or-take n qs i no_requirement lt) (left-step (take n qs) i (simp length-take (omega arith)))
+
+  pub quantity-end : n ≤ i → quantity (drop i (take n qs)) ≡ 0
+  quantity-end le = left-end (take n qs) i (simp length-take (omega arith))

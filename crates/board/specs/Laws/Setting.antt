@@ -1,12 +1,15 @@
--- The table of places against the board.
-use Rattle.std.specs.Prelude.{false, List, ◌≡◌, ℕ, suc, ◌+◌, ◌/◌, ◌%◌, ◌≤◌, ◌<◌, min, ltb, get_or, set}
+-- The table of places against the board, and the setup by a matrix.
+use borrow.Author.Tests.{leb-true, eq-eqb, ne_eqb}
+use Rattle.std.specs.Prelude.{true, false, List, Option, Some, None, ◌≡◌, ℕ, suc, ◌+◌, ◌*◌, ◌/◌, ◌%◌, ◌≤◌, ◌<◌, min, ltb, pos, get_or, set}
 use Rattle.std.proofs.Math.Path.{refl}
 use Rattle.std.proofs.Common.{arith}
 use Rattle.board.specs.Resources.{number_at, lookup_to}
 use Rattle.calendar.specs.Search.{is_at}
 use Rattle.cells.specs.Every.{every_from}
 use Rattle.cells.specs.Laws.Every.{from-same}
-use Rattle.board.specs.Valid.{transport_cell, transport_right}
+use Rattle.board.specs.Setups.{entry_or, matrix_setup, setup_ms}
+use Rattle.board.specs.declared.TransitionMatrix.{TransitionMatrix}
+use Rattle.board.specs.Valid.{last_right, transport_cell, transport_right}
 use Rattle.board.specs.declared.Board.{Board}
 use Rattle.board.specs.Laws.Seeing.{Seen, seen-on, seen_more}
 
@@ -38,3 +41,26 @@ pub read_all : (b : Board) (i : ℕ) (places : List ℕ) → Seen b (min i b.len
 read_all b i places s l =
     let p : min i b.len ≡ b.len = omega arith in
     rw p at s
+
+-- the setups by a matrix
+pub last-small : (last : Option ℕ) (l : ℕ) → last ≡ Some l → last_right last ≡ true → l ≤ 15
+unfolding last_right
+last-small last l e h = leb-true l 15 (rw e at h)
+
+module _ (m : TransitionMatrix) (last : Option ℕ) (this own : ℕ) where
+  pub setup-own : m.present ≡ false → own ≡ setup_ms m last this own
+  unfolding setup_ms
+  setup-own p = simp p
+
+  pub setup-first : m.present ≡ true → last ≡ None → entry_or (get_or m.initials this (pos 0)) (entry_or m.initial 0) ≡ setup_ms m last this own
+  unfolding setup_ms matrix_setup
+  setup-first p q = rw (q, p) refl
+
+  pub setup-equal : (l : ℕ) → m.present ≡ true → last ≡ Some l → l ≡ this → entry_or (get_or m.transitions (16 * l + this) (pos 0)) 0 ≡ setup_ms m last this own
+  unfolding setup_ms matrix_setup
+  setup-equal l p q e = rw (q, eq-eqb l this e, p) refl
+
+  pub setup-other : (l : ℕ) → m.present ≡ true → last ≡ Some l → (l ≡ this → ⊥)
+      → entry_or (get_or m.transitions (16 * l + this) (pos 0)) (entry_or m.default 0) ≡ setup_ms m last this own
+  unfolding setup_ms matrix_setup
+  setup-other l p q e = rw (q, ne_eqb l this e, p) refl
