@@ -137,22 +137,21 @@ fn last(timeline: ResourceTimeline, line: Line, at: usize) -> DiaryTurn
     }
 }
 
-// The record that begins at `at`, `len` being the end of the input: nothing where the input ends here, 9 for an unknown kind or a
-// cut body.
+// The record that begins at `at`: nothing where the input ends here, 9 for an unknown kind or a cut body.
 #[tactic(auto, unfolding(crate::specs::Records::turn_of, crate::specs::Records::turn_reply, crate::specs::Records::stepped_of, record_diary_text::specs::Lines::line_of))]
-pub fn record(timeline: ResourceTimeline, bytes: &[u8], at: usize, len: usize) -> DiaryTurn
-    requires { (at ≤ len) × (len ≤ length bytes.now) }
-    ensures result_value { turn_of result ≡ turn_reply timeline bytes.now at len }
-    ensures at_le_len { result.at ≤ len }
+pub fn record(timeline: ResourceTimeline, bytes: &[u8], at: usize) -> DiaryTurn
+    requires { at ≤ length bytes.now }
+    ensures result_value { turn_of result ≡ turn_reply timeline bytes.now at (length bytes.now) }
+    ensures at_le_len { result.at ≤ length bytes.now }
 {
-    if at == len {
+    if at == bytes.len() {
         return last(timeline, Line::Nothing, at);
     }
     let Ok(kind) = DiaryKind::try_from(bytes[at]) else {
         return last(timeline, Line::Refused(Refusal::Unreadable), at);
     };
     let n = kind.len();
-    if len - at <= n {
+    if bytes.len() - at <= n {
         return last(timeline, Line::Refused(Refusal::Unreadable), at);
     }
     let DiaryStepped { timeline, line } = step(timeline, kind, bytes, at + 1);

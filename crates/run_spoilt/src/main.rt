@@ -1,6 +1,6 @@
 // A run of bad input: boards, orders, slates and commitments with random words in random cells, 100,000 times, through `place_activity`
-// and `commit`. It checks what 01 says of every reply ('Replies'): 15 before all else, and that a refused call changes nothing. It prints
-// how often each reply came, and the number of faults.
+// and `commit`. It checks what 01 says of every reply ('Replies'): 15 before all else, and that a refused call leaves the slate as it
+// was. (A refused commitment gives no board.) It prints how often each reply came, and the number of faults.
 #![tactic(auto)]
 
 use activity::Activity;
