@@ -59,7 +59,8 @@ fn order_by(bytes: &[u8], at: usize, calendar: Calendar) -> Activity
     )
 }
 
-// Kind 21: a new order in hand. Where it takes the diary's calendar, an empty diary is in hand afterwards. A flag above 1: 9.
+// Kind 21: a new order in hand. Where it takes the diary's calendar, an empty diary is in hand afterwards. A flag
+// above 1: Unreadable (9).
 #[tactic(auto, unfolding(crate::specs::Orders::order_does, crate::specs::Orders::order_at))]
 pub fn new_order(desk: Desk, bytes: &[u8], at: usize) -> Result<Desk, Refusal>
     requires { at + 38 ≤ length bytes.now }
@@ -81,7 +82,7 @@ pub fn new_order(desk: Desk, bytes: &[u8], at: usize) -> Result<Desk, Refusal>
     })
 }
 
-// A timing on the resource of this number: 5 above 15.
+// A timing on the resource of this number: Number (5) above 15.
 fn timed(activity: Activity, number: u8, timing: ResourceTiming) -> Result<Activity, Refusal>
     ensures { ordered_of activity result ≡ timed activity number timing }
 {
@@ -104,7 +105,7 @@ fn requirement_at(bytes: &[u8], at: usize) -> ResourceRequirement
     }
 }
 
-// Kinds 22 to 24: one requirement more, or a timing, a speed or own durations; 5 a number above 15.
+// Kinds 22 to 24: one requirement more, or a timing, a speed or own durations; Number for a number above 15.
 #[tactic(auto, unfolding(crate::specs::Orders::part_reply, crate::specs::Orders::timing_at, record_bodies::specs::Bodies::fixed_len))]
 pub fn part(activity: Activity, part: Part, bytes: &[u8], at: usize) -> Result<Activity, Refusal>
     requires { at + fixed_len (part_number part) ≤ length bytes.now }

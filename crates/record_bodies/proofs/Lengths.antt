@@ -13,9 +13,11 @@ use Rattle.record_bodies.specs.declared.kinds.Part.{Part}
 use Rattle.record_bodies.specs.declared.kinds.Part.TheVariants.{Requirement, Speed, Durations}
 
 -- no number but 1 to 6 is a diary's kind
-pub no_diary : (k : ℕ) → (k ≡ 1 → ⊥) → (k ≡ 2 → ⊥) → (k ≡ 3 → ⊥) → (k ≡ 4 → ⊥) → (k ≡ 5 → ⊥) → (k ≡ 6 → ⊥) → diary_len k ≡ 0
+pub no_diary : (k : ℕ) → (1 ≤ k → k ≤ 4 → ⊥) → (k ≡ 5 → ⊥) → (k ≡ 6 → ⊥) → diary_len k ≡ 0
 unfolding diary_len
-no_diary k a b c d e f = simp (ne_eqb k 1 a, ne_eqb k 2 b, ne_eqb k 3 c, ne_eqb k 4 d, ne_eqb k 5 e, ne_eqb k 6 f)
+no_diary k h e f =
+    let n : (m : ℕ) → 1 ≤ m → m ≤ 4 → k ≡ m → ⊥ = λ m p q e. h (omega arith) (omega arith) in
+    simp (ne_eqb k 1 (n 1 (omega arith) (omega arith)), ne_eqb k 2 (n 2 (omega arith) (omega arith)), ne_eqb k 3 (n 3 (omega arith) (omega arith)), ne_eqb k 4 (n 4 (omega arith) (omega arith)), ne_eqb k 5 e, ne_eqb k 6 f)
 
 -- and no number but 1 to 4 and 16 to 24 is a board's
 pub no_board : (k : ℕ) (bs : List ℕ) (i : ℕ) → (1 ≤ k → k ≤ 4 → ⊥) → (16 ≤ k → k ≤ 24 → ⊥) → len_of k bs i ≡ 0

@@ -42,6 +42,10 @@ board_number (board.Entry e) = entry_number e
 board_number board.Order = 21
 board_number (board.Part p) = part_number p
 
+-- the change of this number, or an error where it is none of 1 to 4
+abbrev pub ChangeOf : ℕ → Result Change UnknownKind → Type 0
+ChangeOf n r = MatchResult r (λ c. change_number c ≡ n) (λ _. 1 ≤ n → n ≤ 4 → ⊥)
+
 -- the kind of this number, or an error where no body is known for it
 abbrev pub DiaryKindOf : ℕ → Result DiaryKind UnknownKind → Type 0
 DiaryKindOf n r = MatchResult r (λ k. diary_number k ≡ n) (λ _. diary_len n ≡ 0)

@@ -1,8 +1,8 @@
 // The kinds of records (docs/RECORDS.md), and how long the body of each is.
 ghost use Rattle.std.specs.Prelude.{◌≡◌, ◌+◌, ◌≤◌, ◌<◌, length, MatchOption};
-ghost use Rattle.record_bodies.specs.Bodies.{diary_len, fixed_len, len_of, whole, body_len};
+ghost use Rattle.record_bodies.specs.Bodies.{diary_len, fixed_len};
 ghost use Rattle.record_bodies.specs.Kinds.{change_number, diary_number, entry_number, part_number, board_number};
-ghost use Rattle.record_bodies.specs.Kinds.{DiaryKindOf, BoardKindOf, BodyOf};
+ghost use Rattle.record_bodies.specs.Kinds.{ChangeOf, DiaryKindOf, BoardKindOf, BodyOf};
 
 // A byte that is the number of no kind.
 #[derive(Clone, Copy)]
@@ -52,6 +52,22 @@ pub enum BoardKind {
     Part(Part),
 }
 
+impl TryFrom<u8> for Change {
+    type Error = UnknownKind;
+
+    ghost try_from_gives = { ChangeOf };
+
+    fn try_from(kind: u8) -> Result<Change, UnknownKind> {
+        match kind {
+            1 => Ok(Change::Capacity),
+            2 => Ok(Change::Window),
+            3 => Ok(Change::Block),
+            4 => Ok(Change::Booking),
+            _ => Err(UnknownKind),
+        }
+    }
+}
+
 impl Change {
     #[tactic(auto, unfolding(crate::specs::Bodies::diary_len))]
     fn len(self) -> usize
@@ -83,15 +99,12 @@ impl TryFrom<u8> for DiaryKind {
 
     ghost try_from_gives = { DiaryKindOf };
 
+    #[tactic(auto, using(crate::proofs::Lengths::no_diary))]
     fn try_from(kind: u8) -> Result<DiaryKind, UnknownKind> {
         match kind {
-            1 => Ok(DiaryKind::Change(Change::Capacity)),
-            2 => Ok(DiaryKind::Change(Change::Window)),
-            3 => Ok(DiaryKind::Change(Change::Block)),
-            4 => Ok(DiaryKind::Change(Change::Booking)),
             5 => Ok(DiaryKind::Fit),
             6 => Ok(DiaryKind::Resumable),
-            _ => Err(UnknownKind),
+            _ => Ok(DiaryKind::Change(Change::try_from(kind)?)),
         }
     }
 }
@@ -154,12 +167,9 @@ impl TryFrom<u8> for BoardKind {
 
     ghost try_from_gives = { BoardKindOf };
 
+    #[tactic(auto, using(crate::proofs::Lengths::no_board))]
     fn try_from(kind: u8) -> Result<BoardKind, UnknownKind> {
         match kind {
-            1 => Ok(BoardKind::Change(Change::Capacity)),
-            2 => Ok(BoardKind::Change(Change::Window)),
-            3 => Ok(BoardKind::Change(Change::Block)),
-            4 => Ok(BoardKind::Change(Change::Booking)),
             16 => Ok(BoardKind::Resource),
             17 => Ok(BoardKind::Entry(Entry::Matrix)),
             18 => Ok(BoardKind::Entry(Entry::Transition)),
@@ -169,7 +179,7 @@ impl TryFrom<u8> for BoardKind {
             22 => Ok(BoardKind::Part(Part::Requirement)),
             23 => Ok(BoardKind::Part(Part::Speed)),
             24 => Ok(BoardKind::Part(Part::Durations)),
-            _ => Err(UnknownKind),
+            _ => Ok(BoardKind::Change(Change::try_from(kind)?)),
         }
     }
 }

@@ -4,6 +4,7 @@
 ghost use Rattle.std.specs.Prelude.{◌≡◌, ◌+◌, ◌≤◌, ◌<◌, length, false};
 ghost use Rattle.record_bodies.specs.Bodies.{diary_len};
 ghost use Rattle.record_bodies.specs.Kinds.{change_number, diary_number};
+ghost use Rattle.record_bodies.specs.Numbers.{little};
 ghost use Rattle.record_diary.specs.Records.{stepped_of, turn_of, capacity_reply, books, asks, record_does, turn_reply};
 ghost use Rattle.timeline.specs.Replies.{booked_of};
 ghost use Rattle.timeline_asks.specs.Answers.{reply_of};
@@ -20,7 +21,9 @@ pub struct DiaryStepped {
     pub line: Line,
 }
 
-// A record read from a run of bytes: what it did, where the next one begins, and whether to go on.
+// A record read from a run of bytes: what it did, where the next one begins, and whether to go on. `at` is given where the stream ends
+// too (the definition `ends`), so that `more` is no Option of it. No generic Turn for all programs: each has its own name
+// (docs/DECISIONS.md, 'One name for one thing'), and its definition `turn_of` reads it.
 #[derive(Clone, Copy)]
 pub struct DiaryTurn {
     pub timeline: ResourceTimeline,
@@ -29,7 +32,7 @@ pub struct DiaryTurn {
     pub more: bool,
 }
 
-// Kind 1: a new diary, or 1 for a capacity above 2^31 - 1.
+// Kind 1: a new diary, or OutOfRange (1) for a capacity above 2^31 - 1.
 #[tactic(auto, unfolding(crate::specs::Records::capacity_reply, crate::specs::Records::books))]
 fn renew(timeline: ResourceTimeline, capacity: u64) -> Result<ResourceTimeline, Refusal>
     ensures { books (booked_of timeline result) ≡ capacity_reply timeline capacity }
@@ -96,6 +99,17 @@ fn asked(timeline: ResourceTimeline, answer: Result<Option<(u64, u64)>, Refusal>
     DiaryStepped { timeline, line }
 }
 
+// The body of an ask: from, span, units.
+fn ask_body(bytes: &[u8], at: usize) -> (u64, u64, u32)
+    requires { at + 20 ≤ length bytes.now }
+    ensures { (result.0 ≡ little bytes.now at 8) × (result.1 ≡ little bytes.now (at + 8) 8) × (result.2 ≡ little bytes.now (at + 16) 4) }
+{
+    let from = number(bytes, at, 8);
+    let span = number(bytes, at + 8, 8);
+    let units = number(bytes, at + 16, 4) as u32;
+    (from, span, units)
+}
+
 // What one record does, its body beginning at `at`.
 #[tactic(auto, unfolding(crate::specs::Records::record_does, record_bodies::specs::Bodies::diary_len))]
 pub fn step(timeline: ResourceTimeline, kind: DiaryKind, bytes: &[u8], at: usize) -> DiaryStepped
@@ -105,18 +119,14 @@ pub fn step(timeline: ResourceTimeline, kind: DiaryKind, bytes: &[u8], at: usize
     match kind {
         DiaryKind::Change(kind) => told(timeline, change(timeline, kind, bytes, at)),
         DiaryKind::Fit => {
-            let from = number(bytes, at, 8);
-            let span = number(bytes, at + 8, 8);
-            let units = number(bytes, at + 16, 4) as u32;
+            let (from, span, units) = ask_body(bytes, at);
             asked(
                 timeline,
                 timeline_asks::earliest_fit(timeline, from, span, units),
             )
         }
         DiaryKind::Resumable => {
-            let from = number(bytes, at, 8);
-            let work = number(bytes, at + 8, 8);
-            let units = number(bytes, at + 16, 4) as u32;
+            let (from, work, units) = ask_body(bytes, at);
             asked(
                 timeline,
                 timeline_asks::earliest_resumable(timeline, from, work, units),
@@ -137,7 +147,7 @@ fn last(timeline: ResourceTimeline, line: Line, at: usize) -> DiaryTurn
     }
 }
 
-// The record that begins at `at`: nothing where the input ends here, 9 for an unknown kind or a cut body.
+// The record that begins at `at`: nothing where the input ends here, Unreadable (9) for an unknown kind or a cut body.
 #[tactic(auto, unfolding(crate::specs::Records::turn_of, crate::specs::Records::turn_reply, crate::specs::Records::stepped_of, record_diary_text::specs::Lines::line_of))]
 pub fn record(timeline: ResourceTimeline, bytes: &[u8], at: usize) -> DiaryTurn
     requires { at ≤ length bytes.now }

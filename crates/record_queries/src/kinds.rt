@@ -14,7 +14,8 @@ pub enum Ask {
     Serving,
 }
 
-// The kinds of a board and an order, and asks.
+// The kinds of a board and an order, and asks. OfferKind of record_offer has the same shape over other kinds: a generic type for both
+// would leave each its try_from and its lengths, and be no plainer.
 #[derive(Clone, Copy)]
 pub enum QueryKind {
     Board(BoardKind),

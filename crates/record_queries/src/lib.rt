@@ -21,7 +21,7 @@ use record_board::step;
 use record_bodies::number;
 use record_desk::Desk;
 
-// What a record answers; `Nothing` prints nothing.
+// What a record answers; `Nothing` prints nothing. It is no Option of an answer: the definition `answer_of` reads this enum.
 #[derive(Clone, Copy)]
 pub enum QueryAnswer {
     Nothing,
@@ -41,8 +41,8 @@ fn last_of(category: u8) -> Option<u8>
     (category <= 15).then_some(category)
 }
 
-// The setup of a category behind another on the resource of this number: 15 the board, 5 the number or the category, 1 a setup above
-// 2^36.
+// The setup of a category behind another on the resource of this number: Invalid (15) the board, Number (5) the number or the category,
+// OutOfRange (1) a setup above 2^36.
 #[tactic(auto, unfolding(crate::specs::Asks::setup_reply))]
 fn setup(board: Board, number: u8, last: u8, category: u8, own: u64) -> Result<u64, Refusal>
     ensures { asked_as Setup result ≡ setup_reply board number last category own }
@@ -58,7 +58,7 @@ fn setup(board: Board, number: u8, last: u8, category: u8, own: u64) -> Result<u
     Ok(board_setups::setup_ms(matrix, last_of(last), category, own))
 }
 
-// The transport to the resource of this number: 15 the board, 5 the number.
+// The transport to the resource of this number: Invalid the board, Number the number.
 #[tactic(auto, unfolding(crate::specs::Asks::transport_reply))]
 fn transport(board: Board, origins: u16, to: u8) -> Result<u64, Refusal>
     ensures { asked_as Transport result ≡ transport_reply board origins to }
@@ -67,7 +67,7 @@ fn transport(board: Board, origins: u16, to: u8) -> Result<u64, Refusal>
     Ok(board_setups::transport_between(&board.transport, origins, to))
 }
 
-// Whether the resource of this number serves: 15 the board, 5 the number.
+// Whether the resource of this number serves: Invalid the board, Number the number.
 #[tactic(auto, unfolding(crate::specs::Asks::serves_reply))]
 fn serves(board: Board, requirement: ResourceRequirement, number: u8) -> Result<bool, Refusal>
     ensures { asked_as (λ yes. cond yes Serves No) result ≡ serves_reply board requirement number }
@@ -127,7 +127,9 @@ fn ask(desk: Desk, ask: Ask, bytes: &[u8], at: usize) -> Result<QueryAnswer, Ref
     }
 }
 
-// A record read from a run of bytes: what is in hand, what it answered, where the next one begins, and whether to go on.
+// A record read from a run of bytes: what is in hand, what it answered, where the next one begins, and whether to go on. `at` is given
+// where the stream ends too (the definition `ends`), so that `more` is no Option of it. No generic Turn for all programs: each has its
+// own name (docs/DECISIONS.md, 'One name for one thing'), and its definition `turn_of` reads it.
 #[derive(Clone, Copy)]
 pub struct QueryTurn {
     pub desk: Desk,
@@ -149,7 +151,7 @@ fn last(desk: Desk, answer: QueryAnswer, at: usize) -> QueryTurn
     }
 }
 
-// A refusal is told, and 9 ends the stream.
+// A refusal is told, and Unreadable (9) ends the stream.
 #[tactic(auto, using(calendar::specs::Laws::Refusals::numbered), unfolding(crate::specs::Asks::told))]
 fn told(desk: Desk, stepped: Result<Desk, Refusal>, at: usize) -> QueryTurn
     ensures { turn_of result ≡ told_of (stepped_of desk stepped) at }
@@ -170,7 +172,7 @@ fn told(desk: Desk, stepped: Result<Desk, Refusal>, at: usize) -> QueryTurn
     }
 }
 
-// The record that begins at `at`: nothing where the input ends here, 9 for an unknown kind or a cut body.
+// The record that begins at `at`: nothing where the input ends here, Unreadable for an unknown kind or a cut body.
 #[tactic(auto, unfolding(crate::specs::Asks::turn_reply, crate::specs::Asks::told, crate::specs::Asks::ends))]
 pub fn record(desk: Desk, bytes: &[u8], at: usize) -> QueryTurn
     requires { at ≤ length bytes.now }

@@ -2,12 +2,16 @@
 // Kinds 2 and 3 are those of `slot`, 32 to 38 its own (tests/beside/README.md): it is run beside the Rust.
 #![tactic(auto)]
 
-ghost use Rattle.std.specs.Prelude.{◌≡◌, ◌+◌, ◌*◌, ◌≤◌, true, length, IfSome};
+ghost use Rattle.std.specs.Prelude.{◌≡◌, ◌+◌, ◌*◌, ◌≤◌, true, length};
 ghost use Rattle.calendar.specs.Limits.{last_asked, longest_span};
 ghost use Rattle.calendar_joint.specs.Layout.{Ruled};
 
+mod kinds;
+
 use calendar::limits::{LAST_ASKED, LONGEST_SPAN};
 use calendar::{Calendar, Refusal};
+use kinds::Kind;
+use record_bodies::number;
 
 // The calendar in hand, the list of calendars, and the list and the instant of the last layout.
 #[derive(Clone, Copy)]
@@ -30,17 +34,6 @@ fn fresh() -> Runs {
         laid_count: 0,
         from: 0,
     }
-}
-
-// The number of n bytes from `at` on, little-endian.
-fn number(b: &[u8; 28], at: usize, n: usize) -> u64
-    requires { at + n ≤ 28 }
-{
-    let mut v: u64 = 0;
-    for k in (0..n).rev() {
-        v = (v << 8) | u64::from(b[at + k]);
-    }
-    v
 }
 
 fn refused(refusal: Refusal) {
@@ -104,6 +97,7 @@ fn lay(s: Runs, from: u64) -> Runs {
         refused(Refusal::OutOfRange);
         return s;
     }
+    // Through a variable: tried in the literal, the proof did not close (the borrow check does not cover an array's field put there).
     let laid = s.list;
     Runs {
         laid,
@@ -187,61 +181,28 @@ fn ask_measure(s: Runs, rounds: u64, from: u64, step: u64, work: u64) {
     io::write_all(1, b"\n");
 }
 
-// How many bytes the body of a record has; nothing for an unknown kind.
-fn body_len(kind: u8) -> Option<usize>
-    ensures { IfSome result (λ n. n ≤ 28) }
-{
-    match kind {
-        2 | 3 | 32 | 36 => Some(16),
-        33 | 35 => Some(8),
-        34 | 37 => Some(0),
-        38 => Some(28),
-        _ => None,
-    }
-}
-
-// What one record of a known kind does.
-fn step(mut s: Runs, kind: u8, body: &[u8; 28]) -> Runs {
+// What one record does.
+fn step(mut s: Runs, kind: Kind, body: &[u8; 28]) -> Runs {
     let first = number(body, 0, 8);
     let second = number(body, 8, 8);
     match kind {
-        2 => {
-            s.hand = told(s.hand, s.hand.add_window(first, second));
-            s
-        }
-        3 => {
-            s.hand = told(s.hand, s.hand.add_block(first, second));
-            s
-        }
-        32 => {
-            ask_fits(s.hand, first, second);
-            s
-        }
-        33 => {
-            ask_working(s.hand, first);
-            s
-        }
-        34 => join(s),
-        35 => lay(s, first),
-        36 => {
-            ask_end(s, first, second);
-            s
-        }
-        37 => {
-            s.count = 0;
-            s
-        }
-        _ => {
-            ask_measure(
-                s,
-                number(body, 0, 4),
-                number(body, 4, 8),
-                number(body, 12, 8),
-                number(body, 20, 8),
-            );
-            s
-        }
+        Kind::Window => s.hand = told(s.hand, s.hand.add_window(first, second)),
+        Kind::Block => s.hand = told(s.hand, s.hand.add_block(first, second)),
+        Kind::Fits => ask_fits(s.hand, first, second),
+        Kind::Working => ask_working(s.hand, first),
+        Kind::Join => return join(s),
+        Kind::Lay => return lay(s, first),
+        Kind::End => ask_end(s, first, second),
+        Kind::Clear => s.count = 0,
+        Kind::Measure => ask_measure(
+            s,
+            number(body, 0, 4),
+            number(body, 4, 8),
+            number(body, 12, 8),
+            number(body, 20, 8),
+        ),
     }
+    s
 }
 
 // One record read and done; nothing where the stream ends.
@@ -250,16 +211,17 @@ fn record(s: Runs) -> Option<Runs> {
     if io::read_full(0, &mut kind) == 0 {
         return None;
     }
-    let Some(n) = body_len(kind[0]) else {
+    let Ok(kind) = Kind::try_from(kind[0]) else {
         refused(Refusal::Unreadable);
         return None;
     };
+    let n = kind.len();
     let mut body = [0u8; 28];
     if io::read_full(0, &mut body[..n]) < n {
         refused(Refusal::Unreadable);
         return None;
     }
-    Some(step(s, kind[0], &body))
+    Some(step(s, kind, &body))
 }
 
 // Nothing says that the input ends, so the turns are counted, up to a number that no run reaches.
