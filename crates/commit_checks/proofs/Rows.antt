@@ -8,10 +8,10 @@ use native.Mathlib.Omega.{arith}
 use lib.ListN.{length, get_or, set, take, replicate, get_or-replicate}
 use lib.Dec.{leb, ltb, eqb}
 use lib.Seq.{take-length, get_or-set_same, get_or-set_other}
-use borrow.Author.Tests.{ltb-true, lt-ltb, lt-leb, le-leb, eq-eqb, ne_eqb}
+use borrow.Author.Tests.{ltb-true, lt-ltb, eq-eqb, ne_eqb}
 use Rattle.cells.specs.Laws.Basics.{and_split, same_or_not, both_ways, take_next}
 use Rattle.cells.specs.Every.{every}
-use Rattle.cells.specs.Laws.Every.{every_map, every-where, every_in}
+use Rattle.cells.specs.Laws.Every.{every_map, every-where}
 use Rattle.board.specs.declared.Board.{Board}
 use Rattle.calendar.specs.Search.{is_at}
 use Rattle.board.specs.Resources.{on_board}
@@ -22,7 +22,7 @@ use Rattle.scheduler.specs.Rows.{Row, number_in}
 use Rattle.scheduler.specs.Committing.{Line, line_of, lines_of, entries_on}
 use Rattle.scheduler.specs.Laws.Ruled.{diary-at}
 use Rattle.board.specs.Laws.Knowing.{place-of, number-place}
-use Rattle.board.specs.Places.{Known, Lengths, FewBookings}
+use Rattle.board.specs.Places.{Known, Lengths}
 use Rattle.commit_checks.specs.Lines.{numbered, metered, roomy, Counted}
 
 -- the lines are the first rows, read one by one
@@ -32,10 +32,6 @@ lines_rows n slate = refl
 
 lines_all : (rows : List Row) → lines_of (length rows) rows ≡ map line_of rows
 lines_all rows = lines_rows (length rows) rows ∙ ap (map line_of) (take-length rows)
-
--- a number has a place, and the diary there holds at most 64 bookings
-abbrev pub HasPlace : List ℕ → List ℕ → ℕ → Type 0
-HasPlace places lens number = (number < 16) × (get_or places number 0 < 16) × (get_or lens (get_or places number 0) 0 ≤ 64)
 
 -- one row
 module _ (places : List ℕ) (row : Row) where
@@ -48,22 +44,6 @@ module _ (places : List ℕ) (row : Row) where
   number_is e =
       let w = and_split (ltb (number_in row) 16) (ltb (get_or places (number_in row) 0) 16) e in
       (ltb-true (number_in row) 16 w.0, ltb-true (get_or places (number_in row) 0) 16 w.1)
-
--- each of some rows whose numbers have a place names such a number
-pub row_place : (places lens : List ℕ) (rows : List Row) (i n : ℕ) → every (numbered places) rows ≡ true → FewBookings lens → i < length rows → n ≡ number_in (get_or rows i [])
-    → HasPlace places lens n
-row_place places lens rows i n e few l q =
-    let w = number_is places (get_or rows i []) (every_in (numbered places) rows i [] l e) in
-    rw q (w.0, w.1, few (get_or places (number_in (get_or rows i [])) 0) w.1)
-
-module _ (places lens tally : List ℕ) (row : Row) where
-  pub room-short : 64 < get_or lens (get_or places (number_in row) 0) 0 + get_or tally (number_in row) 0 → roomy places lens tally row ≡ false
-  unfolding roomy
-  room-short l = lt-leb (get_or lens (get_or places (number_in row) 0) 0 + get_or tally (number_in row) 0) 64 l
-
-  pub room-enough : get_or lens (get_or places (number_in row) 0) 0 + get_or tally (number_in row) 0 ≤ 64 → roomy places lens tally row ≡ true
-  unfolding roomy
-  room-enough l = le-leb (get_or lens (get_or places (number_in row) 0) 0 + get_or tally (number_in row) 0) 64 l
 
 -- how many name each number: one row more
 entries-more : (k : ℕ) (ls : List Line) (l : Line) → entries_on k (ls ++ (l ∷ [])) ≡ entries_on k ls + cond (eqb l.number k) 1 0

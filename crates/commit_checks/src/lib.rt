@@ -54,19 +54,22 @@ fn tally_of(rows: &[Row]) -> [u64; 16]
     tally
 }
 
+#[tactic(auto, unfolding(crate::specs::Lines::numbered, crate::specs::Lines::roomy))]
+fn is_roomy(row: Row, p: &Places, tally: &[u64; 16]) -> bool
+    requires { numbered p.now.places row ≡ true }
+    ensures { result ≡ roomy p.now.places p.now.lens tally.now row }
+{
+    let number = number_in(row) as usize;
+    let taken = p.lens[p.places[number]];
+    tally[number] <= 64 - taken
+}
+
 // Each diary named has places for all its entries.
 fn room_right(rows: &[Row], p: &Places, tally: &[u64; 16]) -> bool
     requires { every (numbered p.now.places) rows.now ≡ true }
     ensures { result ≡ every (roomy p.now.places p.now.lens tally.now) rows.now }
 {
-    for row in rows {
-        let number = number_in(*row) as usize;
-        let place = p.places[number];
-        if tally[number] > 64 - p.lens[place] {
-            return false;
-        }
-    }
-    true
+    rows.iter().all(|row| is_roomy(*row, p, tally))
 }
 
 // Refuses some rows, on any board with these places and as many bookings in its diaries.

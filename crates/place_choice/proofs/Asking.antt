@@ -1,5 +1,5 @@
 -- What a resource and its companions are asked by its plan, one after another, is what the definition asks of them.
-use Rattle.std.specs.Prelude.{Some, None}
+use Rattle.std.specs.Prelude.{Option, Some, None}
 use mathlib.Core.Path.{◌≡◌, refl, sym, ap, ◌∙◌}
 use mathlib.Core.Bool.{Bool, true, false, cond}
 use mathlib.Core.List.{List}
@@ -24,7 +24,6 @@ use Rattle.scheduler.specs.Alone.{Share, one_unit, earliest_of, companions_of, w
 use Rattle.scheduler.specs.Fitting.{among}
 use Rattle.scheduler.specs.Shares.{start_on, no_share, next_asked}
 use Rattle.scheduler.specs.Instants.{events, above, events_on}
-use Rattle.scheduler.specs.Laws.Events.{above-le}
 use Rattle.scheduler.specs.Laws.Together.{Sound}
 use Rattle.scheduler.specs.Laws.Ruled.{place-event, all-seated, seated-sound}
 use Rattle.scheduler.specs.Laws.Asking.{Asked, asked-start, asked-on, asked-none, asked-listed, asked-less, asked-all}
@@ -36,7 +35,7 @@ use Rattle.place_companions.proofs.Seating.{share_at, seat-none, seat-is, seat-t
 use Rattle.place_companions.specs.declared.Asking.{Asking}
 use Rattle.place_companions.specs.Steps.{idle, answered_by}
 use Rattle.activity.specs.Laws.Judging.{accepted}
-use Rattle.place_rounds.specs.Tables.{found_at, number_of, requirement_at}
+use Rattle.place_rounds.specs.Tables.{found_at, requirement_at}
 use Rattle.place_rounds.proofs.Finding.{span_range, arrival-range, used-some}
 use Rattle.place_choice.specs.Seeking.{Seeks}
 use Rattle.place_companions.specs.declared.Member.{Member}
@@ -63,9 +62,13 @@ module _ (b : Board) (a : Activity) (ready i t : ℕ) (q : ResourceRequirement) 
   -- after an answer: it goes on or is over, and fewer events or members are left
   pub record Told (g h : Asking) : Type 0 where
     pub on : h.next ≤ r.count → AskedTo h
-    pub found : r.count < h.next → h.start ≡ number_of (found_at b a ready q t i)
-    pub low : t ≤ h.start
+    pub found : r.count < h.next → at h.start ≡ found_at b a ready q t i
     pub less : above (events_on b) h.start * 32 + (5 - h.next) < above (events_on b) g.start * 32 + (5 - g.next)
+
+  -- or nothing is found
+  unfoldable pub ToldBy : Asking → Option Asking → Type 0
+  ToldBy g (Some h) = Told g h
+  ToldBy g None = nothing ≡ found_at b a ready q t i
 
   -- the one that is asked next: it is on the board, and this is its plan
   pub record Next (p : Plan) (g : Asking) : Type 0 where
@@ -155,7 +158,7 @@ module _ (b : Board) (a : Activity) (ready i t : ℕ) (q : ResourceRequirement) 
                 cc
 
         -- or nothing is found
-        place-nowhere : m.place ≡ None → nothing ≡ found_at b a ready q t i
+        pub place-nowhere : m.place ≡ None → nothing ≡ found_at b a ready q t i
         unfolding found_at start_alone start_with
         place-nowhere h = cases (serves q r.number r.kind r.skills) (every (on_board b) (companions_of r)) refl refl
           where
@@ -171,18 +174,6 @@ module _ (b : Board) (a : Activity) (ready i t : ℕ) (q : ResourceRequirement) 
 
         few : g.next < 5
         few = omega (arith, go.few, (resource-of b v i l).few)
-
-        told-nothing : nothing ≡ found_at b a ready q t i → Told g (answered_by g.next m.from nothing)
-        unfolding answered_by number_of
-        told-nothing e = record {
-          on = λ z. absurd (omega (arith, (resource-of b v i l).few));
-          found = λ z. ap number_of e;
-          low = omega (arith, n.soon);
-          less = omega (arith, above-le (events_on b) g.start (2 ^ 63) (omega (arith, go.soon)), few);
-        }
-
-        pub told-nowhere : m.place ≡ None → Told g (answered_by g.next m.from nothing)
-        told-nowhere h = told-nothing (place-nowhere h)
 
         -- the next one is asked
         module _ (x : ℕ) (h : m.place ≡ Some x) where
@@ -225,21 +216,20 @@ module _ (b : Board) (a : Activity) (ready i t : ℕ) (q : ResourceRequirement) 
               ⊎_elim inl
               (λ (e : among y (events (get_or those g.next no_share).timeline) ≡ true). inr (place-event b x y there (ap (λ (s : Share). among y (events s.timeline)) share-is ∙ e)))
 
-          asked : (f : Found) → start_on a.resumable (span_alone a r) (get_or those g.next no_share) here ≡ f → Told g (answered_by g.next here f)
-          unfolding answered_by number_of
-          asked nothing e = told-nothing (asked-none a.resumable (span_alone a r) those from here g.next (sound on) (go.so on) lt e ∙ found-is)
+          asked : (f : Found) → start_on a.resumable (span_alone a r) (get_or those g.next no_share) here ≡ f → ToldBy g (answered_by g.next here f)
+          unfolding answered_by ToldBy
+          asked nothing e = asked-none a.resumable (span_alone a r) those from here g.next (sound on) (go.so on) lt e ∙ found-is
           asked (at y) e =
               let k = asked-on a.resumable (span_alone a r) those from here g.next (sound on) (go.so on) lt y e in
               let w = asked-listed a.resumable (span_alone a r) those from here g.next (sound on) (go.so on) lt y e in
               let z : max from y ≡ y = omega (arith, k.sought.low) in
               record {
                 on = λ n. record { few = n; soon = k.range; so = λ o. rw z k };
-                found = λ n. ap number_of (asked-all a.resumable (span_alone a r) those from y (next_asked g.next (eqb y here)) (sound on) k (omega (arith, n, all-long)) ∙ found-is);
-                low = omega (arith, k.sought.low);
+                found = λ n. asked-all a.resumable (span_alone a r) those from y (next_asked g.next (eqb y here)) (sound on) k (omega (arith, n, all-long)) ∙ found-is;
                 less = asked-less (events_on b) 5 g.start here g.next y (omega arith) few (omega arith) w.0 (listed y w.1);
               }
 
-          pub told-asked : (f : Found) → f ≡ start_on a.resumable p.span (share_at b x m.units) m.from → Told g (answered_by g.next m.from f)
+          pub told-asked : (f : Found) → f ≡ start_on a.resumable p.span (share_at b x m.units) m.from → ToldBy g (answered_by g.next m.from f)
           told-asked f e =
               let z =
               e

@@ -12,18 +12,20 @@ ghost use Rattle.activity.specs.Check.{activity_refusal};
 ghost use Rattle.board.specs.Valid.{valid};
 ghost use Rattle.scheduler.specs.Choosing.{choosing};
 ghost use Rattle.board.specs.Places.{Known};
-ghost use Rattle.place_rounds.specs.Tables.{start_for};
+ghost use Rattle.timeline_fit.specs.Steps.{start_of};
+ghost use Rattle.place_rounds.specs.Tables.{found_at, requirement_at};
 ghost use Rattle.place_rounds.specs.Rounds.{choice_of, Chosen};
 ghost use Rattle.place_choice.specs.Seeking.{Seeks};
 
 use activity::Activity;
 use board::Board;
+use calendar::limits::NEVER;
 use place_companions::member_of;
 use place_plans::Plan;
 use place_rounds::Choice;
 use std::ops::ControlFlow;
 
-// The least start of the resource at place i for requirement j, from t on, or 2^63: it is asked with its companions one after another.
+// The least start of the resource at place i for requirement j, from t on: it is asked with its companions one after another.
 fn least_start(
     b: &Board,
     a: &Activity,
@@ -32,27 +34,25 @@ fn least_start(
     j: usize,
     places: &[usize; 16],
     t: u64,
-) -> u64
+) -> Option<u64>
     requires { Known b.now places.now × ((ready : ℕ) × Seeks b.now a.now ready p.now i j t) }
-    ensures { (ready : ℕ) → Seeks b.now a.now ready p.now i j t → result ≡ start_for b.now a.now ready t j i }
+    ensures { (ready : ℕ) → Seeks b.now a.now ready p.now i j t → start_of result ≡ found_at b.now a.now ready (requirement_at a.now j) t i }
 {
     let mut g = place_companions::unasked();
     // A `while`: the asking goes on from one to the next, and back to the first where the start has moved on.
     while g.next <= p.count {
         let m = member_of(a.requirements[j], *p, i, places, t, g);
-        let s = match m.place {
-            Some(place) => place_companions::start_on(
-                b.resources[place].timeline,
-                a.resumable,
-                p.span,
-                m.units,
-                m.from,
-            ),
-            None => None,
-        };
-        g = place_companions::answered(g.next, m.from, s);
+        let place = m.place?;
+        let s = place_companions::start_on(
+            b.resources[place].timeline,
+            a.resumable,
+            p.span,
+            m.units,
+            m.from,
+        );
+        g = place_companions::answered(g.next, m.from, s)?;
     }
-    g.start
+    Some(g.start)
 }
 
 // One pass over the board for the plans, then rounds until t stays: in each, what the resources answer to each requirement from t on is
@@ -73,7 +73,7 @@ pub fn choose(b: Board, a: Activity, ready: u64, places: &[usize; 16]) -> Option
             let i = k % 16;
             if place_rounds::is_asked(i, b.len, asked[k], starts[k], t) {
                 asked[k] = t;
-                starts[k] = least_start(&b, &a, &plans[i], i, k / 16, places, t);
+                starts[k] = least_start(&b, &a, &plans[i], i, k / 16, places, t).unwrap_or(NEVER);
             }
         }
         match place_rounds::settled(t, &plans, &starts, b.len, a) {

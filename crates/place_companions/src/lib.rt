@@ -15,7 +15,6 @@ ghost use Rattle.place_companions.specs.Steps.{idle, answered_by};
 ghost use Rattle.place_companions.specs.Members.{member_of};
 
 use activity::ResourceRequirement;
-use calendar::limits::NEVER;
 use place_plans::Plan;
 use timeline::ResourceTimeline;
 
@@ -77,21 +76,14 @@ pub fn unasked() -> Asking
     Asking { start: 0, next: 0 }
 }
 
-// The i-th of at most five has answered, asked from an instant on. Where it has no start, none of the others is asked: 2^63, and past them.
-pub fn answered(i: usize, from: u64, s: Option<u64>) -> Asking
+// The i-th has answered, asked from an instant on. Where it has no start, none of the others is asked.
+pub fn answered(i: usize, from: u64, s: Option<u64>) -> Option<Asking>
     requires { i < never }
     ensures { result ≡ answered_by i from (start_of s) }
 {
-    match s {
-        Some(x) => Asking {
-            start: x,
-            next: next_asked(i, x == from),
-        },
-        None => Asking {
-            start: NEVER,
-            next: 5,
-        },
-    }
+    let start = s?;
+    let next = next_asked(i, start == from);
+    Some(Asking { start, next })
 }
 
 // The one of a resource and its companions that is asked next, by its place on the board: the units wanted of it, and from when on. It has

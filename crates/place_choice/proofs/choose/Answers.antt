@@ -66,7 +66,7 @@ loop-k-preserved c =
           let here = asked_here _ _ _ (sym c.is_asked.ensures ∙ w.if-is_asked.true) in
           let s = seeks b a c.args.ready c.rounds.t c.loop-i.plans k c.requires.0 c.requires.1 r.led.soon planned l here in
           let n = asked-next b c.requires.0 r.few a c.args.ready c.requires.1 c.rounds.t c.loop-k.asked c.loop-k.starts v.kept k l v.thru (omega (arith, l, v.four)) here _ (w.least_start.ensures c.args.ready s) in
-          rw (w.asked-is, w.starts-is) (record { four = v.four; kept = n.0; thru = n.1 })
+          rw (w.asked-is, w.starts-is, w.unwrap_or.ensures) (record { four = v.four; kept = n.0; thru = n.1 })
       | else-is_asked w ↦
           rw (w.asked-is, w.starts-is) (record { four = v.four; kept = v.kept; thru = cell-known b c.requires.0 r.few a c.args.ready c.requires.1 c.rounds.t c.loop-k.asked c.loop-k.starts v.kept k l v.thru (sym c.is_asked.ensures ∙ w.if-is_asked.false) })
     ]

@@ -1,15 +1,14 @@
-use Rattle.std.proofs.Common.{ℕ, ap, ◌∙◌, arith, rules}
+use Rattle.std.proofs.Common.{ℕ, ap, arith, rules}
 use Rattle.activity.specs.Laws.Judging.{accepted}
 use Rattle.board.specs.Laws.Facts.{rules_of}
 use Rattle.board.specs.Theorems.Meaning.{resource-of}
 use Rattle.place_plans.specs.declared.Plan.{Plan}
 use Rattle.place_plans.specs.Plans.{plan_with}
-use Rattle.timeline_fit.specs.Steps.{start_of}
 use Rattle.place_rounds.specs.Tables.{requirement_at}
 use Rattle.place_choice.specs.Seeking.{Seeks}
-use Rattle.place_choice.proofs.Asking.{Told, going_start, number-range, companions-range, span_small, diary-kept, there, units-some, from-small, told-nowhere, told-asked, next-of}
+use Rattle.place_choice.proofs.Asking.{Told, ToldBy, going_start, number-range, companions-range, span_small, diary-kept, there, units-some, from-small, place-nowhere, told-asked, next-of}
 use Rattle.place_choice.proofs.least_start.Goals as goal
-use Rattle.place_choice.proofs.least_start.Goals.{in-Some, in-None}
+use Rattle.place_choice.proofs.least_start.Goals.{In_ok-g}
 
 pub loop-g-init : goal.loop-g-init
 loop-g-init c =
@@ -45,7 +44,7 @@ offset_bounds-b-place c =
     let ready = c.requires.1.0 in
     let s = c.requires.1.1 in
     let n = next-of b a ready c.args.p.now c.args.i c.args.j c.args.t c.loop-g.g s (search rules) (search rules) (c.loop-g.invariant.on ready s c.loop-g-test.true) in
-    record { fits = omega (arith, there _ _ _ _ _ _ s.right s.accepted c.args.places.now k _ _ n _ c.member_of-m.ensures _ c.in-Some.is, (rules_of b s.right).few) }
+    record { fits = omega (arith, there _ _ _ _ _ _ s.right s.accepted c.args.places.now k _ _ n _ c.member_of-m.ensures _ c.in_ok-place.was, (rules_of b s.right).few) }
 
 pub bounds-b-place : goal.bounds-b-place
 bounds-b-place c =
@@ -55,7 +54,7 @@ bounds-b-place c =
     let ready = c.requires.1.0 in
     let s = c.requires.1.1 in
     let n = next-of b a ready c.args.p.now c.args.i c.args.j c.args.t c.loop-g.g s (search rules) (search rules) (c.loop-g.invariant.on ready s c.loop-g-test.true) in
-    omega (arith, there _ _ _ _ _ _ s.right s.accepted c.args.places.now k _ _ n _ c.member_of-m.ensures _ c.in-Some.is, (rules_of b s.right).few)
+    omega (arith, there _ _ _ _ _ _ s.right s.accepted c.args.places.now k _ _ n _ c.member_of-m.ensures _ c.in_ok-place.was, (rules_of b s.right).few)
 
 pub start_on-s-requires : goal.start_on-s-requires
 start_on-s-requires c =
@@ -66,11 +65,11 @@ start_on-s-requires c =
     let s = c.requires.1.1 in
     let n = next-of b a ready c.args.p.now c.args.i c.args.j c.args.t c.loop-g.g s (search rules) (search rules) (c.loop-g.invariant.on ready s c.loop-g-test.true) in
     let e = c.member_of-m.ensures in
-    let h = c.in-Some.is in
+    let h = c.in_ok-place.was in
     (diary-kept _ _ _ _ _ _ s.right s.accepted c.args.places.now k _ _ n _ e _ h, from-small _ _ _ _ _ _ s.right s.accepted c.args.places.now k _ _ n _ e _ h, span_small _ _ _ _ _ _ s.right s.accepted c.args.places.now k _ _ n, units-some _ _ _ _ _ _ s.right s.accepted c.args.places.now k _ _ n _ e _ h)
 
-pub answered-g-requires : goal.answered-g-requires
-answered-g-requires c =
+pub answered-requires : goal.answered-requires
+answered-requires c =
     let b = c.args.b.now in
     let a = c.args.a.now in
     let k = c.requires.0 in
@@ -80,13 +79,12 @@ answered-g-requires c =
     omega (arith, n.go.few, (resource-of b s.right c.args.i n.here).few)
 
 -- what the one that was asked has answered
-told : (c : goal.After-answered-g) (ready : ℕ) → Seeks c.args.b.now c.args.a.now ready c.args.p.now c.args.i c.args.j c.args.t → Told c.args.b.now c.args.a.now ready c.args.i c.args.t (requirement_at c.args.a.now c.args.j) c.loop-g.g c.answered-g.result
+told : (c : In_ok-g) (ready : ℕ) → Seeks c.args.b.now c.args.a.now ready c.args.p.now c.args.i c.args.j c.args.t → Told c.args.b.now c.args.a.now ready c.args.i c.args.t (requirement_at c.args.a.now c.args.j) c.loop-g.g c.in_ok-g.g
+unfolding ToldBy
 told c ready s =
-    let k = c.requires.0 in
     let n = next-of c.args.b.now c.args.a.now ready c.args.p.now c.args.i c.args.j c.args.t c.loop-g.g s (search rules) (search rules) (c.loop-g.invariant.on ready s c.loop-g-test.true) in
-    let e = c.member_of-m.ensures in
-    rw c.answered-g.ensures
-    (elim c.match-m.branch [ in-Some w ↦ told-asked _ _ _ _ _ _ s.right s.accepted c.args.places.now k _ _ n _ e _ w.in-Some.is _ (ap start_of w.s-is ∙ w.start_on-s.ensures) | in-None w ↦ rw w.s-is (told-nowhere _ _ _ _ _ _ s.right s.accepted c.args.places.now k _ _ n _ e w.in-None.is) ])
+    let w = told-asked _ _ _ _ _ _ s.right s.accepted c.args.places.now c.requires.0 _ _ n _ c.member_of-m.ensures _ c.in_ok-place.was _ c.start_on-s.ensures in
+    rw (← c.in_ok-g.ensures) at w
 
 pub loop-g-smaller : goal.loop-g-smaller
 loop-g-smaller c = (told c c.requires.1.0 c.requires.1.1).less
@@ -97,6 +95,18 @@ loop-g-preserved c = record {
   on = λ ready s z. let e = ap (λ (p : Plan). p.count) s.plan in (told c ready s).on (rw (← e) z);
   found = λ ready s z. let e = ap (λ (p : Plan). p.count) s.plan in (told c ready s).found (rw (← e) z);
 }
+
+pub returns-in_err-place : goal.returns-in_err-place
+returns-in_err-place c = λ ready s.
+    let n = next-of c.args.b.now c.args.a.now ready c.args.p.now c.args.i c.args.j c.args.t c.loop-g.g s (search rules) (search rules) (c.loop-g.invariant.on ready s c.loop-g-test.true) in
+    rw c.from_residual.ensures (place-nowhere _ _ _ _ _ _ s.right s.accepted c.args.places.now c.requires.0 _ _ n _ c.member_of-m.ensures c.in_err-place.was)
+
+pub returns-in_err-g : goal.returns-in_err-g
+unfolding ToldBy
+returns-in_err-g c = λ ready s.
+    let n = next-of c.args.b.now c.args.a.now ready c.args.p.now c.args.i c.args.j c.args.t c.loop-g.g s (search rules) (search rules) (c.loop-g.invariant.on ready s c.loop-g-test.true) in
+    let w = told-asked _ _ _ _ _ _ s.right s.accepted c.args.places.now c.requires.0 _ _ n _ c.member_of-m.ensures _ c.in_ok-place.was _ c.start_on-s.ensures in
+    rw c.from_residual-in_err-g.ensures (rw (← c.in_err-g.ensures) at w)
 
 pub returns : goal.returns
 returns c = λ ready s. c.loop-g.invariant.found ready s c.loop-g-test.false

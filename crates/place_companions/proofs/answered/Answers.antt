@@ -3,10 +3,10 @@ use Rattle.std.proofs.Common.{refl}
 use Rattle.place_companions.specs.Steps.{answered_by}
 use Rattle.place_companions.proofs.answered.Goals as goal
 
-pub returns-in-Some : goal.returns-in-Some
+pub returns : goal.returns
 unfolding answered_by
-returns-in-Some c = rw (c.in-Some.is, c.next_asked.ensures) refl
+returns c = rw (c.in_ok-start.was, c.next_asked-next.ensures) refl
 
-pub returns-in-None : goal.returns-in-None
+pub returns-in_err-start : goal.returns-in_err-start
 unfolding answered_by
-returns-in-None c = rw c.in-None.is refl
+returns-in_err-start c = rw c.in_err-start.was c.from_residual.ensures
