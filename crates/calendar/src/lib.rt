@@ -56,7 +56,7 @@ fn spans_right(l: TimeWindows) -> bool
     true
 }
 
-// The calendar keeps the rules.
+// The calendar keeps the rules. (A test, and no type of calendars that keep them: an entry point takes any and refuses with 15.)
 #[tactic(auto, unfolding(crate::specs::Valid::valid))]
 pub fn is_valid(c: Calendar) -> bool
     ensures { result ≡ valid c }
@@ -71,7 +71,8 @@ pub fn same(a: Calendar, b: Calendar) -> bool
     a == b
 }
 
-// Whether a span can be added to a list of `held`, or why not.
+// Whether a span can be added to a list of `held`, or why not. (Its tests stand again where a booking and a commitment are checked: each
+// definition says them in its own order.)
 #[tactic(auto, unfolding(crate::specs::Add::add_refusal))]
 fn check_span(c: Calendar, held: usize, start: u64, end: u64) -> Result<(), Refusal>
     ensures { refused result ≡ add_refusal c held start end }

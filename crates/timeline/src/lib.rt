@@ -98,7 +98,7 @@ fn cells_right(t: ResourceTimeline) -> bool
     filled(t) && empty(t)
 }
 
-// The diary keeps the rules.
+// The diary keeps the rules. (A test, and no type of diaries that keep them: an entry point takes any diary and refuses with 15.)
 #[tactic(auto, unfolding(crate::specs::Valid::valid, crate::specs::Valid::contents_right))]
 pub fn is_valid(t: ResourceTimeline) -> bool
     ensures { result ≡ valid t }

@@ -29,8 +29,8 @@ fn add_one(c: Calendar, block: bool, w: TimeWindow) -> Result<Calendar, Refusal>
     }
 }
 
-// Adds the records of a run, as blocks or as windows: all of them, or none and the number of the first bad one. (A flag, and no closure:
-// the two calls are the calendar's own.)
+// Adds the records of a run, as blocks or as windows: all of them, or none and why the first bad one is
+// refused. (A flag, and no closure: the definition `add_run` takes it.)
 pub fn add_run(c: Calendar, block: bool, run: &[TimeWindow]) -> Result<Calendar, Refusal>
     ensures { added_of c result ≡ add_run c block run.now }
 {
@@ -44,7 +44,7 @@ pub fn add_run(c: Calendar, block: bool, run: &[TimeWindow]) -> Result<Calendar,
     Ok(sofar)
 }
 
-// Adds the records of a run to the calendar of a diary: all of them, or none and the number of the first bad one.
+// Adds the records of a run to the calendar of a diary: all of them, or none and why the first bad one is refused.
 #[tactic(auto, unfolding(crate::specs::Run::add_timeline_run))]
 pub fn add_timeline_run(
     t: ResourceTimeline,
