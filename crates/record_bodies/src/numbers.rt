@@ -8,7 +8,7 @@ pub fn number(bytes: &[u8], at: usize, n: usize) -> u64
     ensures { (result ≡ little bytes.now at n) × (result < 256 ^ n) }
 {
     let mut v: u64 = 0;
-    // By index: `bytes[at..at + n].iter().rev()` reads plainer, but its proof must first tie what the iterator has left to the bytes.
+    // By index: `bytes[at..at + n].iter().rev()` was tried, the proof did not close; it must tie what the iterator has left to the bytes.
     for k in (0..n).rev() {
         v = v * 256 + u64::from(bytes[at + k]);
     }

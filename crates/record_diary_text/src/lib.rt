@@ -6,7 +6,7 @@ mod lines;
 use calendar::Refusal;
 pub use lines::text;
 
-// What a record prints.
+// What a record prints; `Nothing` prints nothing. An enum of its own: the definition `line_of` reads it.
 #[derive(Clone, Copy)]
 pub enum Line {
     Nothing,

@@ -4,7 +4,8 @@ ghost use Rattle.record_offer.specs.Kinds.{OfferKindOf, BodyOf};
 
 use record_bodies::{BoardKind, UnknownKind, whole};
 
-// Those of a board and an order; 25 places, 26 commits.
+// Those of a board and an order; 25 places, 26 commits. QueryKind of record_queries has the same shape over other kinds: a generic
+// type for both would leave each its try_from and its lengths, and be no plainer.
 #[derive(Clone, Copy)]
 pub enum OfferKind {
     Board(BoardKind),

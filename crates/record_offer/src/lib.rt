@@ -20,7 +20,7 @@ use record_bodies::number;
 use record_desk::Desk;
 use scheduler::rows::Row;
 
-// What a record answers; `Nothing` prints nothing.
+// What a record answers; `Nothing` prints nothing. It is no Option of an answer: the definition `tells` reads this enum.
 #[derive(Clone, Copy)]
 pub enum OfferAnswer {
     Nothing,
@@ -31,7 +31,9 @@ pub enum OfferAnswer {
     Refused(Refusal),
 }
 
-// A record read from a run of bytes: what is in hand, what it answered, where the next one begins, and whether to go on.
+// A record read from a run of bytes: what is in hand, what it answered, where the next one begins, and whether to go on. `at` is given
+// where the stream ends too (the definition `ends`), so that `more` is no Option of it. No generic Turn for all programs: each has its
+// own name (docs/DECISIONS.md, 'One name for one thing'), and its definition `turn_of` reads it.
 #[derive(Clone, Copy)]
 pub struct OfferTurn {
     pub desk: Desk,
@@ -92,7 +94,7 @@ fn last(desk: Desk, answer: OfferAnswer, at: usize) -> OfferTurn
     }
 }
 
-// A refusal is told in place of the answer, and 9 ends the stream.
+// A refusal is told in place of the answer, and Unreadable (9) ends the stream.
 #[tactic(auto, using(calendar::specs::Laws::Refusals::numbered), unfolding(crate::specs::Offers::told))]
 fn told(desk: Desk, stepped: Result<Desk, Refusal>, answer: OfferAnswer, at: usize) -> OfferTurn
     ensures { turn_of result ≡ told_of (stepped_of desk stepped) (tells answer) at }
@@ -113,7 +115,7 @@ fn told(desk: Desk, stepped: Result<Desk, Refusal>, answer: OfferAnswer, at: usi
     }
 }
 
-// The record that begins at `at`: nothing where the input ends here, 9 for an unknown kind or a cut body.
+// The record that begins at `at`: nothing where the input ends here, Unreadable for an unknown kind or a cut body.
 #[tactic(auto, unfolding(crate::specs::Offers::turn_reply, crate::specs::Offers::slate_reply, crate::specs::Offers::record_does, crate::specs::Offers::told, crate::specs::Offers::ends, crate::specs::Offers::shown))]
 pub fn record(desk: Desk, slate: &mut [Row], bytes: &[u8], at: usize) -> OfferTurn
     requires { at ≤ length bytes.now }

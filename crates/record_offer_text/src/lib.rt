@@ -2,7 +2,7 @@
 // it speaks of.
 #![tactic(auto)]
 
-ghost use Rattle.std.specs.Prelude.{◌≡◌, ◌+◌, ◌*◌, ◌≤◌, length, take};
+ghost use Rattle.std.specs.Prelude.{◌≡◌, ◌+◌, ◌*◌, ◌≤◌, length};
 ghost use Rattle.record_texts.specs.Text.{Put};
 ghost use Rattle.record_offer.specs.Replies.{tells};
 ghost use Rattle.record_offer.specs.Offers.{shown as shown_of};

@@ -1,8 +1,9 @@
 // Text put into a buffer from an index on, one piece behind the other. Each function answers where it ends, and leaves the rest of the
-// buffer as it was. The paper takes this for granted ('Program slot').
+// buffer as it was. The paper takes this for granted ('Program slot'). The place goes as `(out, at)`: the definition `Put` speaks of the
+// whole buffer and a place in it.
 #![tactic(auto)]
 
-ghost use Rattle.std.specs.Prelude.{◌∷◌, ◌+◌, ◌≤◌, length, take};
+ghost use Rattle.std.specs.Prelude.{◌∷◌, ◌+◌, ◌≤◌, length};
 ghost use Rattle.record_texts.specs.Text.{Put, decimal};
 
 // Puts all bytes of src.

@@ -24,6 +24,7 @@ pub fn row_of(e: Entry) -> Row
     ]
 }
 
+// Four functions that differ in an index: README.md names them, and definitions of these names say what they give.
 pub fn number_in(row: Row) -> u64
     ensures { result ≡ number_in row }
 {
