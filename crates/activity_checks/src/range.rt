@@ -42,7 +42,7 @@ pub fn timings_short(timings: [ResourceTiming; 16]) -> bool
     timings.iter().all(|t| timing_short(*t))
 }
 
-// Each quantity is at least 1, and the total at most 8.
+// Each quantity is at least 1, and the total at most 8. (Four cells and a count: no more than four are ever added up.)
 pub fn quantities_right(requirements: [ResourceRequirement; 4], len: usize) -> bool
     requires { len ≤ 4 }
     ensures { result ≡ quantities_right (take len requirements) }

@@ -10,10 +10,11 @@ ghost use Rattle.board.specs.Enter.{empty_board};
 
 use timeline::ResourceTimeline;
 
-// A duration, and an entry of a matrix, is at most 2^36.
+// A duration, and an entry of a matrix, is at most 2^36: `LONGEST_DURATION` of these signed cells.
 const LONGEST: i64 = 68719476736;
 
-// The setups of a resource by category: 16 * last + this, and the first entries; -1 is an absent entry. Not present: 0 throughout.
+// The setups of a resource by category: 16 * last + this, and the first entries; -1 is an absent entry (as 01 has it, so that the rules
+// speak of other negative entries too). Not present: 0 throughout. One row behind the other, as 01's format and `setup_at` have them.
 // A flag, and no Option of a matrix: 01, 15 refuses a matrix that is not there and not 0 throughout, so that such values are spoken of.
 #[derive(Clone, Copy)]
 pub struct TransitionMatrix {
@@ -38,7 +39,7 @@ pub struct Resource {
     pub last: Option<u8>,
 }
 
-// The resources in board order, the cells past `len` 0; the transport by 16 * from + to.
+// The resources in board order, the cells past `len` 0; the transport by 16 * from + to, as 01's format has it.
 #[derive(Clone, Copy)]
 pub struct Board {
     pub resources: [Resource; 16],

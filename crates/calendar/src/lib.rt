@@ -14,7 +14,8 @@ ghost use Rattle.calendar.specs.Add.{add_refusal, with_span, empty, add_window, 
 use limits::LAST_INSTANT;
 pub use refusal::Refusal;
 
-// Up to 32 spans [start, end), the cells past `len` 0. (Arrays with a length: no heap is used, and 15 speaks of the cells past it.)
+// Up to 32 spans [start, end), the cells past `len` 0. (Arrays with a length: no heap is used, and 15 speaks of the cells past it. Starts
+// and ends apart: joint time sorts each, and the searches read one column as a slice.)
 #[derive(Clone, Copy, PartialEq, Eq)]
 pub struct TimeWindows {
     pub starts: [u64; 32],
@@ -41,6 +42,7 @@ fn cell_right(i: usize, n: usize, start: u64, end: u64) -> bool
     }
 }
 
+// (By index: the two columns are read side by side.)
 fn spans_right(l: TimeWindows) -> bool
     ensures { result ≡ spans_right l }
 {
@@ -134,7 +136,7 @@ impl Calendar {
         Ok(Calendar { windows, ..self })
     }
 
-    // Adds a block, or refuses, as for a window.
+    // Adds a block, or refuses, as for a window. (Two functions, and no flag: the paper has two calls.)
     #[tactic(auto, unfolding(crate::specs::Add::add_block, crate::specs::Add::added))]
     pub fn add_block(self, start: u64, end: u64) -> Result<Calendar, Refusal>
         ensures value { added_of self result ≡ add_block self start end }

@@ -13,7 +13,7 @@ ghost use Rattle.calendar.specs.Work.{working};
 
 use calendar::{Calendar, TimeWindows};
 
-// Some span passes the test.
+// Some span passes the test. (By index: two columns are read side by side.)
 fn any_span<F: Fn(u64, u64) -> bool>(l: TimeWindows, test: F) -> bool
     requires len_bound { l.len ≤ 32 }
     requires callable { F.IsAlwaysCallable test }

@@ -54,7 +54,7 @@ fn cell_empty(s: u64, e: u64, u: u32, l: u64) -> bool
     s == 0 && e == 0 && u == 0 && l == 0
 }
 
-// The cells up to the length are filled, and the booked total is theirs.
+// The cells up to the length are filled, and the booked total is theirs. (By index: four columns are read side by side.)
 fn filled(t: ResourceTimeline) -> bool
     requires { t.len ≤ 64 }
     ensures { result ≡ filled_from t 0 t.len && eqb t.booked (total (bookings t)) }
@@ -77,7 +77,7 @@ fn filled(t: ResourceTimeline) -> bool
     t.booked == sum
 }
 
-// The cells past it are empty.
+// The cells past it are empty. (By index, as above.)
 fn empty(t: ResourceTimeline) -> bool
     requires { t.len ≤ 64 }
     ensures { result ≡ empty_from t t.len (64 - t.len) }

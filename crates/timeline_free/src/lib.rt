@@ -12,6 +12,7 @@ ghost use Rattle.timeline.specs.Steps.{overlapping, Columns, From};
 use timeline::ResourceTimeline;
 
 // The units of the bookings that overlap [s, e). None before cell `first` does, nor any from the first on that starts at e or later.
+// (By index: three columns are read side by side.)
 fn units_over(t: &ResourceTimeline, first: usize, s: u64, e: u64) -> u64
     requires { From t.now.starts t.now.ends t.now.units t.now.len first s }
     ensures { result ≡ overlapping (bookings t.now) s e }

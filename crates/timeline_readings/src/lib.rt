@@ -33,7 +33,8 @@ pub fn booked_ms(timeline: ResourceTimeline) -> Result<u64, Refusal>
     checked(timeline, timeline.booked)
 }
 
-// The latest end, 0 where there is no booking, or refuses: 15 a diary that breaks the rules.
+// The latest end, 0 where there is no booking, or refuses: 15 a diary that breaks the rules. (Checked first, and not by `checked`: of
+// such a diary the cell cannot be read.)
 pub fn latest_end(timeline: ResourceTimeline) -> Result<u64, Refusal>
     ensures { read_of result ≡ latest_read timeline }
 {
