@@ -14,7 +14,8 @@ use timeline::ResourceTimeline;
 const LONGEST: i64 = 68719476736;
 
 // The setups of a resource by category: 16 * last + this, and the first entries; -1 is an absent entry (as 01 has it, so that the rules
-// speak of other negative entries too). Not present: 0 throughout. One row behind the other, as 01's format and `setup_at` have them.
+// speak of other negative entries too). Not present: 0 throughout. One row behind the other, as the definition
+// `setup` reads them.
 // A flag, and no Option of a matrix: 01, 15 refuses a matrix that is not there and not 0 throughout, so that such values are spoken of.
 #[derive(Clone, Copy)]
 pub struct TransitionMatrix {
@@ -39,7 +40,7 @@ pub struct Resource {
     pub last: Option<u8>,
 }
 
-// The resources in board order, the cells past `len` 0; the transport by 16 * from + to, as 01's format has it.
+// The resources in board order, the cells past `len` 0; the transport by 16 * from + to, as the definition `valid` reads it.
 #[derive(Clone, Copy)]
 pub struct Board {
     pub resources: [Resource; 16],
