@@ -15,7 +15,7 @@ const LONGEST: i64 = 68719476736;
 
 // The setups of a resource by category: 16 * last + this, and the first entries; -1 is an absent entry (as 01 has it, so that the rules
 // speak of other negative entries too). Not present: 0 throughout. One row behind the other, as the definition
-// `setup` reads them.
+// `matrix_setup` reads them.
 // A flag, and no Option of a matrix: 01, 15 refuses a matrix that is not there and not 0 throughout, so that such values are spoken of.
 #[derive(Clone, Copy)]
 pub struct TransitionMatrix {
