@@ -4,6 +4,7 @@
 pub const LAST_INSTANT: u64 = 4398046511104;
 // Asked from at most 2^43 on, for a span of at most 2^53.
 pub const LAST_ASKED: u64 = 8796093022208;
+
 pub const LONGEST_SPAN: u64 = 9007199254740992;
 // Setup, process, teardown and transport are at most 2^36 each.
 pub const LONGEST_DURATION: u64 = 68719476736;

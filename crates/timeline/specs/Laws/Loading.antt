@@ -170,9 +170,9 @@ pub load-over : (bs : List Booking) (s e p z : ℕ) → s ≤ p → z ≤ e → 
 unfolding load overlapping overlaps on_at
 load-over bs s e p z h k l m = le_antisymm
     (tally-le _ _ bs (λ i j t. let g = and_split (ltb (get_or bs i none).start z) _ t in
-      let a = ltb-true _ _ g.0 in
-      let b = ltb-true _ _ g.1 in
-      is-on (get_or bs i none) s e p (record { starts = omega arith; ends = omega arith; from = omega arith; to = b })))
+    let a = ltb-true _ _ g.0 in
+    let b = ltb-true _ _ g.1 in
+    is-on (get_or bs i none) s e p (record { starts = omega arith; ends = omega arith; from = omega arith; to = b })))
     (tally-le _ _ bs (λ i j t. let f = on (get_or bs i none) s e p t in
-      let a : (get_or bs i none).start < z = ⊎_elim (λ (q : e ≤ z). omega (arith, f.starts)) (λ (q : p + 1 ≤ z). omega (arith, f.from)) m in
-      simp (lt-ltb _ _ a, lt-ltb _ _ f.to)))
+    let a : (get_or bs i none).start < z = ⊎_elim (λ (q : e ≤ z). omega (arith, f.starts)) (λ (q : p + 1 ≤ z). omega (arith, f.from)) m in
+    simp (lt-ltb _ _ a, lt-ltb _ _ f.to)))
