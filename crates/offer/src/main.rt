@@ -22,10 +22,10 @@ fn main() {
     for _ in 0..u64::MAX {
         s = record_streams::supply(s, &mut buf, 267);
         let turn = record_offer::record(desk, &mut slate, &buf[..s.len], s.at);
-        desk = turn.desk;
+        desk = turn.state;
         s.at = turn.at;
         used = record_streams::relieve(&out, used, TEXT_MOST);
-        used = record_offer_text::text(turn.answer, &slate, &mut out, used);
+        used = record_offer_text::text(turn.reply, &slate, &mut out, used);
         if !turn.more {
             break;
         }

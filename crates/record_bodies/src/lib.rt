@@ -4,6 +4,8 @@
 
 mod kinds;
 mod numbers;
+mod turns;
 
 pub use kinds::{BoardKind, Change, DiaryKind, Entry, Part, UnknownKind, whole};
 pub use numbers::number;
+pub use turns::{Turn, last};

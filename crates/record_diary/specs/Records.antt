@@ -7,9 +7,10 @@ use Rattle.timeline.specs.Diary.{new_diary}
 use Rattle.timeline.specs.Book.{book_reply, calendar_reply}
 use Rattle.timeline.specs.Ask.{AskReply, refused, fit_reply, resumable_reply}
 use Rattle.record_diary.specs.declared.DiaryStepped.{DiaryStepped}
-use Rattle.record_diary.specs.declared.DiaryTurn.{DiaryTurn}
+use Rattle.record_bodies.specs.declared.turns.Turn.{Turn}
 use Rattle.record_bodies.specs.Bodies.{diary_len}
 use Rattle.record_bodies.specs.Numbers.{little}
+use Rattle.record_diary_text.specs.declared.Line.{Line}
 use Rattle.record_diary_text.specs.Lines.{Printed, nothing, line, line_of}
 
 -- an unknown kind
@@ -58,8 +59,8 @@ pub record Turned : Type 0 where
   pub at : ℕ
   pub more : Bool
 
-unfoldable pub turn_of : DiaryTurn → Turned
-turn_of r = record { done = record { timeline = r.timeline; prints = line_of r.line }; at = r.at; more = r.more }
+unfoldable pub turn_of : Turn ResourceTimeline Line → Turned
+turn_of r = record { done = record { timeline = r.state; prints = line_of r.reply }; at = r.at; more = r.more }
 
 abbrev pub ends : ResourceTimeline → Printed → ℕ → Turned
 ends t p i = record { done = record { timeline = t; prints = p }; at = i; more = false }

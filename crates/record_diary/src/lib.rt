@@ -1,7 +1,7 @@
 // What a record of a stream does to a diary and what it prints (01, 'Program slot'). Everything that `slot` decides is here.
 #![tactic(auto)]
 
-ghost use Rattle.std.specs.Prelude.{◌≡◌, ◌+◌, ◌≤◌, ◌<◌, length, false};
+ghost use Rattle.std.specs.Prelude.{◌≡◌, ◌+◌, ◌≤◌, ◌<◌, length};
 ghost use Rattle.record_bodies.specs.Bodies.{diary_len};
 ghost use Rattle.record_bodies.specs.Kinds.{change_number, diary_number};
 ghost use Rattle.record_bodies.specs.Numbers.{little};
@@ -10,7 +10,7 @@ ghost use Rattle.timeline.specs.Replies.{booked_of};
 ghost use Rattle.timeline_asks.specs.Answers.{reply_of};
 
 use calendar::Refusal;
-use record_bodies::{Change, DiaryKind, number};
+use record_bodies::{Change, DiaryKind, Turn, last, number};
 use record_diary_text::Line;
 use timeline::ResourceTimeline;
 
@@ -21,16 +21,8 @@ pub struct DiaryStepped {
     pub line: Line,
 }
 
-// A record read from a run of bytes: what it did, where the next one begins, and whether to go on. `at` is given where the stream ends
-// too (the definition `ends`), so that `more` is no Option of it. No generic Turn for all programs: each has its own name
-// (docs/DECISIONS.md, 'One name for one thing'), and its definition `turn_of` reads it.
-#[derive(Clone, Copy)]
-pub struct DiaryTurn {
-    pub timeline: ResourceTimeline,
-    pub line: Line,
-    pub at: usize,
-    pub more: bool,
-}
+// A record read from a run of bytes, its reply a line.
+pub type DiaryTurn = Turn<ResourceTimeline, Line>;
 
 // Kind 1: a new diary, or OutOfRange (1) for a capacity above 2^31 - 1.
 #[tactic(auto, unfolding(crate::specs::Records::capacity_reply, crate::specs::Records::books))]
@@ -135,18 +127,6 @@ pub fn step(timeline: ResourceTimeline, kind: DiaryKind, bytes: &[u8], at: usize
     }
 }
 
-// The stream ends here, and prints the line.
-fn last(timeline: ResourceTimeline, line: Line, at: usize) -> DiaryTurn
-    ensures { (result.timeline ≡ timeline) × (result.line ≡ line) × (result.at ≡ at) × (result.more ≡ false) }
-{
-    DiaryTurn {
-        timeline,
-        line,
-        at,
-        more: false,
-    }
-}
-
 // The record that begins at `at`: nothing where the input ends here, Unreadable (9) for an unknown kind or a cut body.
 #[tactic(auto, unfolding(crate::specs::Records::turn_of, crate::specs::Records::turn_reply, crate::specs::Records::stepped_of, record_diary_text::specs::Lines::line_of))]
 pub fn record(timeline: ResourceTimeline, bytes: &[u8], at: usize) -> DiaryTurn
@@ -165,9 +145,9 @@ pub fn record(timeline: ResourceTimeline, bytes: &[u8], at: usize) -> DiaryTurn
         return last(timeline, Line::Refused(Refusal::Unreadable), at);
     }
     let DiaryStepped { timeline, line } = step(timeline, kind, bytes, at + 1);
-    DiaryTurn {
-        timeline,
-        line,
+    Turn {
+        state: timeline,
+        reply: line,
         at: at + 1 + n,
         more: true,
     }

@@ -3,10 +3,10 @@
 use Rattle.std.specs.Prelude.{ℕ, Bool}
 use Rattle.calendar.specs.Replies.{number_of}
 use Rattle.placing.specs.declared.Placed as placing
+use Rattle.record_bodies.specs.declared.turns.Turn.{Turn}
 use Rattle.record_desk.specs.declared.Desk.{Desk}
 use Rattle.record_offer.specs.declared.OfferAnswer as declared
 use Rattle.record_offer.specs.declared.OfferAnswer.TheVariants as told
-use Rattle.record_offer.specs.declared.OfferTurn as turn
 
 pub data OfferAnswer : Type 0 where
   Nothing : OfferAnswer
@@ -30,5 +30,5 @@ tells told.None = None
 tells told.Committed = Committed
 tells (told.Refused e) = Refused (number_of e)
 
-abbrev pub turn_of : turn.OfferTurn → OfferTurn
-turn_of t = record { desk = t.desk; answer = tells t.answer; at = t.at; more = t.more }
+abbrev pub turn_of : Turn Desk declared.OfferAnswer → OfferTurn
+turn_of t = record { desk = t.state; answer = tells t.reply; at = t.at; more = t.more }

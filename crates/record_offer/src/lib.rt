@@ -16,7 +16,7 @@ use calendar::Refusal;
 use kinds::OfferKind;
 use placing::{PlaceReply, Placed};
 use record_board::step;
-use record_bodies::number;
+use record_bodies::{Turn, last, number};
 use record_desk::Desk;
 use scheduler::rows::Row;
 
@@ -31,16 +31,8 @@ pub enum OfferAnswer {
     Refused(Refusal),
 }
 
-// A record read from a run of bytes: what is in hand, what it answered, where the next one begins, and whether to go on. `at` is given
-// where the stream ends too (the definition `ends`), so that `more` is no Option of it. No generic Turn for all programs: each has its
-// own name (docs/DECISIONS.md, 'One name for one thing'), and its definition `turn_of` reads it.
-#[derive(Clone, Copy)]
-pub struct OfferTurn {
-    pub desk: Desk,
-    pub answer: OfferAnswer,
-    pub at: usize,
-    pub more: bool,
-}
+// A record read from a run of bytes.
+pub type OfferTurn = Turn<Desk, OfferAnswer>;
 
 // What placing answers.
 #[tactic(auto, unfolding(crate::specs::Offers::answer_of, placing::specs::Told::answer_of))]
@@ -81,34 +73,21 @@ fn commit(desk: Desk, slate: &[Row], bytes: &[u8], at: usize) -> Result<Desk, Re
     Ok(Desk { board, ..desk })
 }
 
-// The stream ends here with this answer.
-#[tactic(auto, unfolding(crate::specs::Offers::ends))]
-fn last(desk: Desk, answer: OfferAnswer, at: usize) -> OfferTurn
-    ensures { turn_of result ≡ ends desk (tells answer) at }
-{
-    OfferTurn {
-        desk,
-        answer,
-        at,
-        more: false,
-    }
-}
-
 // A refusal is told in place of the answer, and Unreadable (9) ends the stream.
 #[tactic(auto, using(calendar::specs::Laws::Refusals::numbered), unfolding(crate::specs::Offers::told))]
 fn told(desk: Desk, stepped: Result<Desk, Refusal>, answer: OfferAnswer, at: usize) -> OfferTurn
     ensures { turn_of result ≡ told_of (stepped_of desk stepped) (tells answer) at }
 {
     match stepped {
-        Ok(desk) => OfferTurn {
-            desk,
-            answer,
+        Ok(desk) => Turn {
+            state: desk,
+            reply: answer,
             at,
             more: true,
         },
-        Err(refusal) => OfferTurn {
-            desk,
-            answer: OfferAnswer::Refused(refusal),
+        Err(refusal) => Turn {
+            state: desk,
+            reply: OfferAnswer::Refused(refusal),
             at,
             more: refusal != Refusal::Unreadable,
         },
@@ -120,7 +99,7 @@ fn told(desk: Desk, stepped: Result<Desk, Refusal>, answer: OfferAnswer, at: usi
 pub fn record(desk: Desk, slate: &mut [Row], bytes: &[u8], at: usize) -> OfferTurn
     requires { at ≤ length bytes.now }
     ensures value { (turn_of result ≡ turn_reply desk slate.old bytes.now at (length bytes.now)) × (result.at ≤ length bytes.now) }
-    ensures slate_turned { SlateTurned desk slate.old bytes.now at (length bytes.now) slate.new (tells result.answer) }
+    ensures slate_turned { SlateTurned desk slate.old bytes.now at (length bytes.now) slate.new (tells result.reply) }
 {
     if at == bytes.len() {
         return last(desk, OfferAnswer::Nothing, at);
@@ -135,9 +114,9 @@ pub fn record(desk: Desk, slate: &mut [Row], bytes: &[u8], at: usize) -> OfferTu
     match kind {
         OfferKind::Place => {
             let answer = place(desk, slate, bytes, at + 1);
-            OfferTurn {
-                desk,
-                answer,
+            Turn {
+                state: desk,
+                reply: answer,
                 at: next,
                 more: true,
             }

@@ -3,10 +3,10 @@
 use Rattle.std.specs.Prelude.{ℕ, Bool, Result, Ok, Err}
 use Rattle.calendar.specs.declared.refusal.Refusal.{Refusal}
 use Rattle.calendar.specs.Replies.{number_of}
+use Rattle.record_bodies.specs.declared.turns.Turn.{Turn}
 use Rattle.record_desk.specs.declared.Desk.{Desk}
 use Rattle.record_queries.specs.declared.QueryAnswer as declared
 use Rattle.record_queries.specs.declared.QueryAnswer.TheVariants as told
-use Rattle.record_queries.specs.declared.QueryTurn as turn
 
 pub data QueryAnswer : Type 0 where
   Nothing : QueryAnswer
@@ -37,5 +37,5 @@ abbrev pub asked_as : {T : Type 0} → (T → QueryAnswer) → Result T Refusal 
 asked_as f (Ok x) = f x
 asked_as f (Err e) = Refused (number_of e)
 
-abbrev pub turn_of : turn.QueryTurn → QueryTurn
-turn_of t = record { desk = t.desk; answer = answer_of t.answer; at = t.at; more = t.more }
+abbrev pub turn_of : Turn Desk declared.QueryAnswer → QueryTurn
+turn_of t = record { desk = t.state; answer = answer_of t.reply; at = t.at; more = t.more }

@@ -18,7 +18,7 @@ use calendar::Refusal;
 use calendar::limits::LONGEST_DURATION;
 use kinds::{Ask, QueryKind};
 use record_board::step;
-use record_bodies::number;
+use record_bodies::{Turn, last, number};
 use record_desk::Desk;
 
 // What a record answers; `Nothing` prints nothing. It is no Option of an answer: the definition `answer_of` reads this enum.
@@ -127,29 +127,8 @@ fn ask(desk: Desk, ask: Ask, bytes: &[u8], at: usize) -> Result<QueryAnswer, Ref
     }
 }
 
-// A record read from a run of bytes: what is in hand, what it answered, where the next one begins, and whether to go on. `at` is given
-// where the stream ends too (the definition `ends`), so that `more` is no Option of it. No generic Turn for all programs: each has its
-// own name (docs/DECISIONS.md, 'One name for one thing'), and its definition `turn_of` reads it.
-#[derive(Clone, Copy)]
-pub struct QueryTurn {
-    pub desk: Desk,
-    pub answer: QueryAnswer,
-    pub at: usize,
-    pub more: bool,
-}
-
-// The stream ends here with this answer.
-#[tactic(auto, unfolding(crate::specs::Asks::ends))]
-fn last(desk: Desk, answer: QueryAnswer, at: usize) -> QueryTurn
-    ensures { turn_of result ≡ ends desk (answer_of answer) at }
-{
-    QueryTurn {
-        desk,
-        answer,
-        at,
-        more: false,
-    }
-}
+// A record read from a run of bytes.
+pub type QueryTurn = Turn<Desk, QueryAnswer>;
 
 // A refusal is told, and Unreadable (9) ends the stream.
 #[tactic(auto, using(calendar::specs::Laws::Refusals::numbered), unfolding(crate::specs::Asks::told))]
@@ -157,15 +136,15 @@ fn told(desk: Desk, stepped: Result<Desk, Refusal>, at: usize) -> QueryTurn
     ensures { turn_of result ≡ told_of (stepped_of desk stepped) at }
 {
     match stepped {
-        Ok(desk) => QueryTurn {
-            desk,
-            answer: QueryAnswer::Nothing,
+        Ok(desk) => Turn {
+            state: desk,
+            reply: QueryAnswer::Nothing,
             at,
             more: true,
         },
-        Err(refusal) => QueryTurn {
-            desk,
-            answer: QueryAnswer::Refused(refusal),
+        Err(refusal) => Turn {
+            state: desk,
+            reply: QueryAnswer::Refused(refusal),
             at,
             more: refusal != Refusal::Unreadable,
         },
@@ -195,9 +174,9 @@ pub fn record(desk: Desk, bytes: &[u8], at: usize) -> QueryTurn
                 Ok(answer) => answer,
                 Err(refusal) => QueryAnswer::Refused(refusal),
             };
-            QueryTurn {
-                desk,
-                answer,
+            Turn {
+                state: desk,
+                reply: answer,
                 at: next,
                 more: true,
             }

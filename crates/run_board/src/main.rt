@@ -60,9 +60,9 @@ fn main() {
     for _ in 0..u64::MAX {
         s = record_streams::supply(s, &mut buf, 267);
         let turn = record_queries::record(desk, &buf[..s.len], s.at);
-        desk = turn.desk;
+        desk = turn.state;
         s.at = turn.at;
-        print(turn.answer);
+        print(turn.reply);
         if !turn.more {
             break;
         }

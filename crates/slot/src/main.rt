@@ -19,10 +19,10 @@ fn main() {
     for _ in 0..u64::MAX {
         s = record_streams::supply(s, &mut buf, 21);
         let turn = record_diary::record(timeline, &buf[..s.len], s.at);
-        timeline = turn.timeline;
+        timeline = turn.state;
         s.at = turn.at;
         used = record_streams::relieve(&out, used, 46);
-        used = record_diary_text::text(turn.line, &mut out, used);
+        used = record_diary_text::text(turn.reply, &mut out, used);
         if !turn.more {
             break;
         }

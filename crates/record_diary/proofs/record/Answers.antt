@@ -8,7 +8,7 @@ use Rattle.record_diary.specs.Records.{stepped_of, turn_of, record_does, turn_re
 use Rattle.record_diary.proofs.record.Goals as goal
 
 goes : (t : ResourceTimeline) (bs : List ℕ) (i n k m : ℕ) (s : DiaryStepped) → k ≡ get_or bs i 0 → i < n → m ≡ diary_len k → 0 < m → m < n - i
-    → stepped_of s ≡ record_does t k bs (i + 1) → turn_of (record { timeline = s.timeline; line = s.line; at = i + 1 + m; more = true }) ≡ turn_reply t bs i n
+    → stepped_of s ≡ record_does t k bs (i + 1) → turn_of (record { state = s.timeline; reply = s.line; at = i + 1 + m; more = true }) ≡ turn_reply t bs i n
 unfolding turn_reply turn_of stepped_of
 goes t bs i n k m s q h l z o e =
     let z' : diary_len k ≡ 0 → ⊥ = λ w. omega arith in
