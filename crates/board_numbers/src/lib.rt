@@ -20,9 +20,7 @@ pub fn entry_for(b: Board, number: u8) -> Result<usize, Refusal>
     ensures entry { place_for_of result ≡ entry_for b number }
     ensures below { IfOk result (λ place. place < 16) }
 {
-    let Some(p) = board_rules::places_of(b) else {
-        return Err(Refusal::Invalid);
-    };
+    let p = board_rules::places_of(b).ok_or(Refusal::Invalid)?;
     if !is_on(&p.places, number) {
         return Err(Refusal::Number);
     }

@@ -40,9 +40,7 @@ fn check_add(
 ) -> Result<(), Refusal>
     ensures { refused result ≡ add_refusal b number companions.now timeline }
 {
-    let Some(p) = board_rules::places_of(b) else {
-        return Err(Refusal::Invalid);
-    };
+    let p = board_rules::places_of(b).ok_or(Refusal::Invalid)?;
     if !timeline::is_valid(timeline) {
         return Err(Refusal::Invalid);
     }

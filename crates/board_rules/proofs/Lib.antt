@@ -1,2 +1,3 @@
 -- The proofs of the functions.
 mod Lengths
+pub mod Refusing

@@ -15,9 +15,7 @@ use calendar::limits::LONGEST_DURATION;
 fn check_transport(b: Board, from: u8, to: u8, ms: u64) -> Result<(), Refusal>
     ensures { refused result ≡ transport_refusal b from to ms }
 {
-    let Some(p) = board_rules::places_of(b) else {
-        return Err(Refusal::Invalid);
-    };
+    let p = board_rules::places_of(b).ok_or(Refusal::Invalid)?;
     if !is_on(&p.places, from) || !is_on(&p.places, to) {
         return Err(Refusal::Number);
     }

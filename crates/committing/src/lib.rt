@@ -32,7 +32,7 @@ fn book_on(r: Resource, start: u64, end: u64, category: u8, units: u32, companio
 }
 
 // Books the first `count` entries of the slate, or refuses: a board that breaks the rules; no entries: accepted; a count above the slate;
-// then its rows.
+// then its rows. The slate comes whole with the count beside it, as refusal 7 is for a count above the slate.
 pub fn commit(
     b: Board,
     slate: &[Row],
@@ -43,9 +43,7 @@ pub fn commit(
 ) -> Result<Board, Refusal>
     ensures { entered_of b result ≡ commit_reply b slate.now count start end category }
 {
-    let Some(p) = board_rules::places_of(b) else {
-        return Err(Refusal::Invalid);
-    };
+    let p = board_rules::places_of(b).ok_or(Refusal::Invalid)?;
     if count == 0 {
         return Ok(b);
     }

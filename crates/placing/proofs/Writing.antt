@@ -4,7 +4,7 @@ use mathlib.Core.Path.{sym, ap, ◌∙◌}
 use mathlib.Core.List.{append_assoc, map-append}
 use native.Mathlib.Numerals.{add-one}
 use native.Mathlib.Omega.{arith}
-use lib.ListN.{length-map, length-append, length-drop}
+use lib.ListN.{length-map}
 use lib.Seq.{set_at, length-take-le, take-suc, drop-cons}
 use Rattle.scheduler.specs.declared.Entry.{Entry}
 use Rattle.scheduler.specs.Rows.{Row, row_of}
@@ -16,9 +16,6 @@ module _ (es : List Entry) (slate : List Row) where
 
   rows_long : (i : ℕ) → i ≤ length es → length (map row_of (take i es)) ≡ i
   rows_long i l = length-map (take i es) row_of ∙ length-take-le i es l
-
-  pub written-long : (i : ℕ) → i ≤ length es → i ≤ length slate → length (written i) ≡ length slate
-  written-long i l m = length-append (map row_of (take i es)) (drop i slate) ∙ rw (rows_long i l, length-drop i slate) (omega arith)
 
   pub written_next : (i : ℕ) → i < length es → i < length slate → set (written i) i (row_of (get_or es i no_entry)) ≡ written (i + 1)
   written_next i l m =

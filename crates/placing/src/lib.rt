@@ -87,9 +87,7 @@ pub fn place_activity(
     ensures value { answer_of result ≡ told (place_reply b a ready (length slate.old)) }
     ensures slate_after { slate.new ≡ slate_after (place_reply b a ready (length slate.old)) slate.old }
 {
-    let Some(p) = board_rules::places_of(b) else {
-        return Err(Refusal::Invalid);
-    };
+    let p = board_rules::places_of(b).ok_or(Refusal::Invalid)?;
     check(a, ready, slate.len())?;
     let from = activity::basics::ready_of(a.release, ready);
     let Some((t, x)) = sought(b, a, from, &p.places) else {
