@@ -5,7 +5,8 @@
 ghost use Rattle.std.specs.Prelude.{◌≡◌, ◌≤◌, ◌<◌};
 ghost use Rattle.board.specs.Replies.{entered_of};
 ghost use Rattle.board.specs.Resources.{resource_at, with_matrix};
-ghost use Rattle.board.specs.Enter.{with_resource, new_matrix, matrix_of, with_transition, with_initial, set_matrix_reply, set_transition_reply, set_initial_reply};
+ghost use Rattle.board.specs.Enter.{with_resource, new_matrix, matrix_of, with_transition, with_initial};
+ghost use Rattle.board.specs.Enter.{set_matrix_reply, set_transition_reply, set_initial_reply};
 
 use board::{Board, TransitionMatrix, duration_right, entry_right};
 use board_numbers::entry_for;

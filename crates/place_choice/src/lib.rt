@@ -36,7 +36,8 @@ fn least_start(
     t: u64,
 ) -> Option<u64>
     requires { Known b.now places.now × ((ready : ℕ) × Seeks b.now a.now ready p.now i j t) }
-    ensures { (ready : ℕ) → Seeks b.now a.now ready p.now i j t → start_of result ≡ found_at b.now a.now ready (requirement_at a.now j) t i }
+    ensures { (ready : ℕ) → Seeks b.now a.now ready p.now i j t
+        → start_of result ≡ found_at b.now a.now ready (requirement_at a.now j) t i }
 {
     let mut g = place_companions::unasked();
     // A `while`: the asking goes on from one to the next, and back to the first where the start has moved on.
@@ -65,6 +66,8 @@ pub fn choose(b: Board, a: Activity, ready: u64, places: &[usize; 16]) -> Option
     for i in 0..b.len {
         plans[i] = place_plans::plan_of(b.resources[i], a, ready, &b.transport);
     }
+    // Two flat tables, walked cell by cell, asked 1 and start 0 where nobody was asked: so `Remembered` has them
+    // (place_rounds/specs/Tables).
     let mut asked: [u64; 64] = [1; 64];
     let mut starts: [u64; 64] = [0; 64];
     let mut t = ready;

@@ -43,7 +43,7 @@ pub struct Asking {
     pub next: usize,
 }
 
-// The least start on one diary, unbroken or resumable.
+// The least start on one diary, unbroken or resumable: `resumable` is the order's own field.
 pub fn start_on(
     t: ResourceTimeline,
     resumable: bool,

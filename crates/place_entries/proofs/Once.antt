@@ -6,17 +6,15 @@ use mathlib.Core.List.{append_assoc, append-nil, map-append, map-map, map-id}
 use native.Mathlib.Omega.{arith}
 use borrow.Author.Tests.{lt-ltb, eq-eqb, ne_eqb}
 use lib.ListN.{length-set, length-append}
-use lib.Seq.{take-suc-set, get_or-take, length-take-le}
+use lib.Seq.{take-suc-set}
 use Rattle.std.specs.List.{list_any}
 use Rattle.board.specs.Laws.Counts.{count_to, count_none, count_most, count-more}
 use Rattle.scheduler.specs.declared.Entry.{Entry}
 use Rattle.scheduler.specs.Fitting.{among, join_each}
 use Rattle.scheduler.specs.Entries.{companion_entry}
 use Rattle.scheduler.specs.Laws.Events.{among-append}
-use Rattle.cells.specs.Every.{Each}
 use Rattle.cells.specs.Laws.Basics.{or_right, take_next}
-use Rattle.place_entries.specs.Cells.{entry_number, Small}
-use Rattle.cells.specs.Laws.Arrays.{each_at}
+use Rattle.place_entries.specs.Cells.{entry_number}
 
 join_last : (held joined cs : List ℕ) (c : ℕ) → join_each held joined (cs ++ (c ∷ [])) ≡ cond (among c held || among c (join_each held joined cs)) (join_each held joined cs) (join_each held joined cs ++ (c ∷ []))
 unfolding join_each
@@ -107,6 +105,3 @@ module _ (es : List Entry) (n : ℕ) (cs : List ℕ) (i : ℕ) (xs : List Entry)
 
     pub join-on : Joined es n (join_each (map entry_number es) [] (take (i + 1) cs)) (set xs k (companion_entry c)) (k + 1)
     join-on = rw (next-is false e) (joined-on es n js xs k j c small new)
-
-pub small_at : (xs : List ℕ) (n : ℕ) → n ≤ length xs → Each Small (take n xs) → (i : ℕ) → i < n → get_or xs i 0 < 16
-small_at xs n l e i m = rw (get_or-take n xs i 0 m) at (each_at Small 0 (take n xs) e i (omega (arith, length-take-le n xs l)))

@@ -8,7 +8,7 @@ ghost use Rattle.place_entries.specs.Cells.{entry_number, Small, first_entries, 
 
 use scheduler::Entry;
 
-// The first `count` are the entries.
+// The first `count` are the entries. There is no heap here, so an array stands with its count.
 #[derive(Clone, Copy)]
 pub struct Entries {
     pub entries: [Entry; 24],

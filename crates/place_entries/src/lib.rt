@@ -15,7 +15,7 @@ ghost use Rattle.activity.specs.Lawful.{Lawful};
 ghost use Rattle.board.specs.declared.Board as declared;
 ghost use Rattle.scheduler.specs.Fitting.{greatest_setup};
 ghost use Rattle.cells.specs.Every.{Each};
-ghost use Rattle.place_entries.specs.Cells.{Small, first_entries, numbers_in};
+ghost use Rattle.place_entries.specs.Cells.{Small, numbers_in};
 ghost use Rattle.place_entries.specs.Parts.{PlansKnown, PlansOfSomeBoard, PartsOf, EntriesHeld, HeldTogether};
 
 use joining::join_each;
@@ -28,7 +28,7 @@ pub struct Spanned {
     pub span: u64,
 }
 
-// The companions of those held, one behind another: the first `len`.
+// The companions of those held, one behind another: the first `len`. There is no heap here, so an array stands with its count.
 #[derive(Clone, Copy)]
 struct Companions {
     numbers: [u8; 32],
@@ -36,6 +36,7 @@ struct Companions {
 }
 
 // What the entries take from the plans: the numbers held, the setups of those that have a matrix, and the companions.
+// Arrays of eight, the most that can be held: there is no heap here.
 #[derive(Clone, Copy)]
 struct Parts {
     numbers: [u8; 8],
@@ -46,7 +47,9 @@ struct Parts {
 // These go behind the list.
 fn push_each(list: Companions, more: &[u8]) -> Companions
     requires { (list.len + length more.now ≤ 32) × Each Small (numbers_in list) × Each Small more.now }
-    ensures { (result.len ≡ list.len + length more.now) × (numbers_in result ≡ numbers_in list ++ more.now) × Each Small (numbers_in result) }
+    ensures { (result.len ≡ list.len + length more.now)
+        × (numbers_in result ≡ numbers_in list ++ more.now)
+        × Each Small (numbers_in result) }
 {
     let mut numbers = list.numbers;
     let len = list.len + more.len();
@@ -56,7 +59,8 @@ fn push_each(list: Companions, more: &[u8]) -> Companions
 
 // What the plans of those held have.
 fn parts_of(plans: &[Plan; 16], held: &[Selection]) -> Parts
-    requires { (length held.now ≤ 8) × ((b : declared.Board) × (a : ordered.Activity) × (ready : ℕ) × PlansKnown b a ready plans.now held.now) }
+    requires { (length held.now ≤ 8)
+        × ((b : declared.Board) × (a : ordered.Activity) × (ready : ℕ) × PlansKnown b a ready plans.now held.now) }
     ensures { PartsOf plans.now held.now result }
 {
     let mut numbers = [0; 8];
@@ -91,6 +95,7 @@ fn held_entries(p: Parts, held: &[Selection], own: u64) -> Entries
     e
 }
 
+// As `greatest_start` of place_rounds; each answers its own definition of scheduler/specs, this one that of Fitting.
 fn greatest_setup(entries: &[Entry]) -> u64
     ensures { result ≡ greatest_setup entries.now }
 {

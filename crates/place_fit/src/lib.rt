@@ -7,7 +7,6 @@
 #![tactic(auto)]
 
 ghost use Rattle.std.specs.Prelude.{◌≡◌, ◌<◌, ◌+◌, false, get_or};
-ghost use Rattle.scheduler.specs.Alone as alone;
 ghost use Rattle.scheduler.specs.Fitting.{shares_of};
 ghost use Rattle.scheduler.specs.Shares.{own_share, no_share};
 ghost use Rattle.place_entries.specs.Cells.{first_entries};

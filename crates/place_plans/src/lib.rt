@@ -11,7 +11,7 @@ use activity::Activity;
 use board::Resource;
 
 // A resource with its companions, its span, process time and arrival, and the setup by its matrix where it has one: none of them changes
-// from round to round.
+// from round to round. The companions are the first `count` of their cells, as those of a Resource are.
 #[derive(Clone, Copy, Default)]
 pub struct Plan {
     pub number: u8,
