@@ -21,7 +21,7 @@ fn main() {
     let mut used = 0;
     for _ in 0..u64::MAX {
         s = record_streams::supply(s, &mut buf, 267);
-        let turn = record_offer::record(desk, &mut slate, &buf[..s.len], s.at);
+        let turn = record_offer::record(desk, &mut slate, &buf, s.at, s.len);
         desk = turn.state;
         s.at = turn.at;
         used = record_streams::relieve(&out, used, TEXT_MOST);

@@ -68,5 +68,4 @@ timed a number t = cond (ltb 15 number) (record { refusal = 5; activity = a }) (
 unfoldable pub part_reply : Activity → ℕ → List ℕ → ℕ → Ordered
 part_reply a kind bs i =
     cond (eqb kind 22) (record { refusal = 0; activity = with_requirement a (requirement_at bs i) })
-    (cond (ltb 15 (byte bs i)) (record { refusal = 5; activity = a })
-    (record { refusal = 0; activity = with_timing a (byte bs i) (timing_at kind bs i) }))
+    (timed a (byte bs i) (timing_at kind bs i))

@@ -1,5 +1,5 @@
 -- The length of a record's body, by its kind.
-use Rattle.std.proofs.Common.{◌≡◌, ℕ, ◌+◌, ◌-◌, ◌≤◌, ◌<◌, List, length, refl, sym, ◌∙◌, arith, Option, None, Some, MatchOption}
+use Rattle.std.proofs.Common.{◌≡◌, ℕ, ◌+◌, ◌-◌, ◌≤◌, ◌<◌, List, length, get_or, take, drop, refl, sym, ◌∙◌, arith, length-take, length-drop, get_or-take, get_or-drop, Option, None, Some, MatchOption}
 use mathlib.Core.Logic.{⊎_elim}
 use borrow.Author.Tests.{lt-ltb, le-ltb, lt-leb, ne_eqb}
 use Rattle.cells.specs.Laws.Basics.{lt-or-ge}
@@ -50,11 +50,15 @@ body-read k bs i n len (Some m) l e p h =
     record { known = h.0 ∙ sym e; some = omega arith; fits = omega arith; whole = rw (e, le-ltb (n - i) len h.1) h.0 }
 
 -- a body of kind 16 that is cut before its count
-pub cut-short : (bs : List ℕ) (i : ℕ) → i ≤ length bs → length bs ≤ i + 10 → body_len 16 bs i (length bs) ≡ 0
+pub cut-short : (bs : List ℕ) (i n : ℕ) → i ≤ n → n ≤ length bs → length (take (n - i) (drop i bs)) ≤ 10 → body_len 16 bs i n ≡ 0
 unfolding body_len whole len_of
-cut-short bs i h l =
-    let r : length bs - i < 11 + byte bs (i + 10) = omega arith in
-    rw (lt-ltb (length bs - i) (11 + byte bs (i + 10)) r) refl
+cut-short bs i n h l s =
+    let r : n - i < 11 + byte bs (i + 10) = omega (arith, length-take (n - i) (drop i bs), length-drop i bs) in
+    rw (lt-ltb (n - i) (11 + byte bs (i + 10)) r) refl
+
+-- the count in a body of kind 16
+pub counted : (bs : List ℕ) (i n x : ℕ) → 10 < length (take (n - i) (drop i bs)) → x ≡ get_or (take (n - i) (drop i bs)) 10 0 → x ≡ byte bs (i + 10)
+counted bs i n x h e = e ∙ get_or-take (n - i) (drop i bs) 10 0 (omega (arith, length-take (n - i) (drop i bs))) ∙ get_or-drop i bs 10 0
 
 pub change-len : (c : Change) (bs : List ℕ) (i : ℕ) → len_of (change_number c) bs i ≡ diary_len (change_number c)
 unfolding len_of fixed_len diary_len

@@ -143,16 +143,17 @@ pub fn whole(rest: usize, len: usize) -> Option<usize>
 }
 
 impl BoardKind {
-    // How many bytes the body has that begins at `at`: nothing for a cut body.
-    pub fn body_len(self, bytes: &[u8], at: usize) -> Option<usize>
-        requires { at ≤ length bytes.now }
-        ensures { BodyOf (board_number self) bytes.now at (length bytes.now) result }
+    // How many bytes the body has that begins at `at`, `end` being the end of the input: nothing for a cut body.
+    // (An end beside the slice: the definition `body_len` takes it.)
+    pub fn body_len(self, bytes: &[u8], at: usize, end: usize) -> Option<usize>
+        requires { (at ≤ end) × (end ≤ length bytes.now) }
+        ensures { BodyOf (board_number self) bytes.now at end result }
     {
-        let rest = bytes.len() - at;
+        let rest = end - at;
         match self {
             BoardKind::Change(change) => whole(rest, change.len()),
             BoardKind::Resource => {
-                let count = bytes.get(at + 10)?;
+                let count = bytes[at..end].get(10)?;
                 whole(rest, 11 + usize::from(*count))
             }
             BoardKind::Entry(entry) => whole(rest, entry.len()),

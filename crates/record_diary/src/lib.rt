@@ -127,21 +127,22 @@ pub fn step(timeline: ResourceTimeline, kind: DiaryKind, bytes: &[u8], at: usize
     }
 }
 
-// The record that begins at `at`: nothing where the input ends here, Unreadable (9) for an unknown kind or a cut body.
+// The record that begins at `at`, `len` being the end of the input: nothing where the input ends here, Unreadable (9) for an unknown
+// kind or a cut body. (An end beside the slice: the definition `turn_reply` takes it, and the promise is for every end.)
 #[tactic(auto, unfolding(crate::specs::Records::turn_of, crate::specs::Records::turn_reply, crate::specs::Records::stepped_of, record_diary_text::specs::Lines::line_of))]
-pub fn record(timeline: ResourceTimeline, bytes: &[u8], at: usize) -> DiaryTurn
-    requires { at ≤ length bytes.now }
-    ensures result_value { turn_of result ≡ turn_reply timeline bytes.now at (length bytes.now) }
-    ensures at_le_len { result.at ≤ length bytes.now }
+pub fn record(timeline: ResourceTimeline, bytes: &[u8], at: usize, len: usize) -> DiaryTurn
+    requires { (at ≤ len) × (len ≤ length bytes.now) }
+    ensures result_value { turn_of result ≡ turn_reply timeline bytes.now at len }
+    ensures at_le_len { result.at ≤ len }
 {
-    if at == bytes.len() {
+    if at == len {
         return last(timeline, Line::Nothing, at);
     }
     let Ok(kind) = DiaryKind::try_from(bytes[at]) else {
         return last(timeline, Line::Refused(Refusal::Unreadable), at);
     };
     let n = kind.len();
-    if bytes.len() - at <= n {
+    if len - at <= n {
         return last(timeline, Line::Refused(Refusal::Unreadable), at);
     }
     let DiaryStepped { timeline, line } = step(timeline, kind, bytes, at + 1);

@@ -29,16 +29,16 @@ impl TryFrom<u8> for OfferKind {
 }
 
 impl OfferKind {
-    // How many bytes the body has that begins at `at`: nothing for a cut body.
+    // How many bytes the body has that begins at `at`, `end` being the end of the input: nothing for a cut body.
     #[tactic(auto, unfolding(crate::specs::Offers::offer_len, record_bodies::specs::Bodies::whole))]
-    pub fn body_len(self, bytes: &[u8], at: usize) -> Option<usize>
-        requires { at ≤ length bytes.now }
-        ensures { BodyOf self bytes.now at (length bytes.now) result }
+    pub fn body_len(self, bytes: &[u8], at: usize, end: usize) -> Option<usize>
+        requires { (at ≤ end) × (end ≤ length bytes.now) }
+        ensures { BodyOf self bytes.now at end result }
     {
         match self {
-            OfferKind::Board(kind) => kind.body_len(bytes, at),
-            OfferKind::Place => whole(bytes.len() - at, 8),
-            OfferKind::Commit => whole(bytes.len() - at, 20),
+            OfferKind::Board(kind) => kind.body_len(bytes, at, end),
+            OfferKind::Place => whole(end - at, 8),
+            OfferKind::Commit => whole(end - at, 20),
         }
     }
 }

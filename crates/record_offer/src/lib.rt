@@ -94,20 +94,21 @@ fn told(desk: Desk, stepped: Result<Desk, Refusal>, answer: OfferAnswer, at: usi
     }
 }
 
-// The record that begins at `at`: nothing where the input ends here, Unreadable for an unknown kind or a cut body.
+// The record that begins at `at`, `len` being the end of the input: nothing where the input ends here, Unreadable for an unknown kind
+// or a cut body. (An end beside the slice: the definition `turn_reply` takes it, and the promise is for every end.)
 #[tactic(auto, unfolding(crate::specs::Offers::turn_reply, crate::specs::Offers::slate_reply, crate::specs::Offers::record_does, crate::specs::Offers::told, crate::specs::Offers::ends, crate::specs::Offers::shown))]
-pub fn record(desk: Desk, slate: &mut [Row], bytes: &[u8], at: usize) -> OfferTurn
-    requires { at ≤ length bytes.now }
-    ensures value { (turn_of result ≡ turn_reply desk slate.old bytes.now at (length bytes.now)) × (result.at ≤ length bytes.now) }
-    ensures slate_turned { SlateTurned desk slate.old bytes.now at (length bytes.now) slate.new (tells result.reply) }
+pub fn record(desk: Desk, slate: &mut [Row], bytes: &[u8], at: usize, len: usize) -> OfferTurn
+    requires { (at ≤ len) × (len ≤ length bytes.now) }
+    ensures value { (turn_of result ≡ turn_reply desk slate.old bytes.now at len) × (result.at ≤ len) }
+    ensures slate_turned { SlateTurned desk slate.old bytes.now at len slate.new (tells result.reply) }
 {
-    if at == bytes.len() {
+    if at == len {
         return last(desk, OfferAnswer::Nothing, at);
     }
     let Ok(kind) = OfferKind::try_from(bytes[at]) else {
         return last(desk, OfferAnswer::Refused(Refusal::Unreadable), at);
     };
-    let Some(n) = kind.body_len(bytes, at + 1) else {
+    let Some(n) = kind.body_len(bytes, at + 1, len) else {
         return last(desk, OfferAnswer::Refused(Refusal::Unreadable), at);
     };
     let next = at + 1 + n;

@@ -53,15 +53,15 @@ impl TryFrom<u8> for QueryKind {
 }
 
 impl QueryKind {
-    // How many bytes the body has that begins at `at`: nothing for a cut body.
+    // How many bytes the body has that begins at `at`, `end` being the end of the input: nothing for a cut body.
     #[tactic(auto, unfolding(crate::specs::Asks::run_len, crate::specs::Asks::ask_len, record_bodies::specs::Bodies::whole))]
-    pub fn body_len(self, bytes: &[u8], at: usize) -> Option<usize>
-        requires { at ≤ length bytes.now }
-        ensures { BodyOf self bytes.now at (length bytes.now) result }
+    pub fn body_len(self, bytes: &[u8], at: usize, end: usize) -> Option<usize>
+        requires { (at ≤ end) × (end ≤ length bytes.now) }
+        ensures { BodyOf self bytes.now at end result }
     {
         match self {
-            QueryKind::Board(kind) => kind.body_len(bytes, at),
-            QueryKind::Ask(ask) => whole(bytes.len() - at, ask.len()),
+            QueryKind::Board(kind) => kind.body_len(bytes, at, end),
+            QueryKind::Ask(ask) => whole(end - at, ask.len()),
         }
     }
 }

@@ -151,19 +151,20 @@ fn told(desk: Desk, stepped: Result<Desk, Refusal>, at: usize) -> QueryTurn
     }
 }
 
-// The record that begins at `at`: nothing where the input ends here, Unreadable for an unknown kind or a cut body.
+// The record that begins at `at`, `len` being the end of the input: nothing where the input ends here, Unreadable for an unknown kind
+// or a cut body. (An end beside the slice: the definition `turn_reply` takes it, and the promise is for every end.)
 #[tactic(auto, unfolding(crate::specs::Asks::turn_reply, crate::specs::Asks::told, crate::specs::Asks::ends))]
-pub fn record(desk: Desk, bytes: &[u8], at: usize) -> QueryTurn
-    requires { at ≤ length bytes.now }
-    ensures { (turn_of result ≡ turn_reply desk bytes.now at (length bytes.now)) × (result.at ≤ length bytes.now) }
+pub fn record(desk: Desk, bytes: &[u8], at: usize, len: usize) -> QueryTurn
+    requires { (at ≤ len) × (len ≤ length bytes.now) }
+    ensures { (turn_of result ≡ turn_reply desk bytes.now at len) × (result.at ≤ len) }
 {
-    if at == bytes.len() {
+    if at == len {
         return last(desk, QueryAnswer::Nothing, at);
     }
     let Ok(kind) = QueryKind::try_from(bytes[at]) else {
         return last(desk, QueryAnswer::Refused(Refusal::Unreadable), at);
     };
-    let Some(n) = kind.body_len(bytes, at + 1) else {
+    let Some(n) = kind.body_len(bytes, at + 1, len) else {
         return last(desk, QueryAnswer::Refused(Refusal::Unreadable), at);
     };
     let next = at + 1 + n;

@@ -2,7 +2,8 @@
 ghost use Rattle.std.specs.Prelude.{◌≡◌, ◌+◌, ◌-◌, ◌≤◌, length, take, drop};
 ghost use Rattle.record_streams.specs.Input.{Lies, Supplied};
 
-// The bytes from `at` to `len` of a buffer are unread, and `live` says that more may come.
+// The bytes from `at` to `len` of a buffer are unread, and `live` says that more may come. (A flag: there are bytes to read where nothing
+// more comes, too.)
 #[derive(Clone, Copy)]
 pub struct Input {
     pub at: usize,

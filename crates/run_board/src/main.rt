@@ -59,7 +59,7 @@ fn main() {
     };
     for _ in 0..u64::MAX {
         s = record_streams::supply(s, &mut buf, 267);
-        let turn = record_queries::record(desk, &buf[..s.len], s.at);
+        let turn = record_queries::record(desk, &buf, s.at, s.len);
         desk = turn.state;
         s.at = turn.at;
         print(turn.reply);

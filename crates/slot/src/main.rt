@@ -18,7 +18,7 @@ fn main() {
     let mut used = 0;
     for _ in 0..u64::MAX {
         s = record_streams::supply(s, &mut buf, 21);
-        let turn = record_diary::record(timeline, &buf[..s.len], s.at);
+        let turn = record_diary::record(timeline, &buf, s.at, s.len);
         timeline = turn.state;
         s.at = turn.at;
         used = record_streams::relieve(&out, used, 46);
