@@ -1,9 +1,5 @@
 -- Booking the lines of a slate: what holds of the board and of the lines that are left, one line more.
-use Rattle.std.specs.Prelude.{Option, Some, Result, Ok, Err}
-use Rattle.calendar.specs.declared.refusal.Refusal.{Refusal}
-use Rattle.calendar.specs.Laws.Refusals.{numbered}
-use Rattle.timeline.specs.declared.Booked.{Booked}
-use Rattle.timeline.specs.Replies.{booked_of}
+use Rattle.std.specs.Prelude.{Some}
 use mathlib.Core.Path.{◌≡◌, refl, sym, ap, ◌∙◌, subst}
 use mathlib.Core.Bool.{Bool, true, false, cond}
 use mathlib.Core.List.{List, [], ◌∷◌, map}
@@ -36,8 +32,8 @@ use Rattle.board.specs.Laws.Knowing.{number-place}
 use Rattle.commit_checks.proofs.Refusing.{Commitment, whole_of, Fine}
 
 -- a booking that is not refused
-book-taken : (t : ResourceTimeline) (start end category u : ℕ) → timeline.valid t ≡ true → t.len < 64 → Bookable start end category → 1 ≤ u → u ≤ 10000
-    → book_reply t start end u ≡ record { refusal = 0; timeline = with_booking t start end u }
+pub book-taken : (t : ResourceTimeline) (start end category u : ℕ) → timeline.valid t ≡ true → t.len < 64 → Bookable start end category → 1 ≤ u → u ≤ 10000
+    → (book_reply t start end u).timeline ≡ with_booking t start end u
 unfolding book_reply book_refusal taken
 book-taken t start end category u v room w some few =
     let s : ltb (2 ^ 42) start ≡ false = le-ltb (2 ^ 42) start (omega (arith, w.order, w.range)) in
@@ -48,32 +44,19 @@ book-taken t start end category u v room w some few =
     let f : leb 64 t.len ≡ false = lt-leb 64 t.len room in
     rw (v, s, e, o, m, n, f) refl
 
-answered-ok : (t w : ResourceTimeline) (r : Result ResourceTimeline Refusal) → booked_of t r ≡ record { refusal = 0; timeline = w } → r ≡ Ok w
-answered-ok t w (Ok y) e = ap Ok (ap (λ (x : Booked). x.timeline) e)
-answered-ok t w (Err x) e = absurd (numbered x (ap (λ (x : Booked). x.refusal) e))
+module _ (r : Resource) (t : ResourceTimeline) (start end category : ℕ) (l : Line) (e : t ≡ with_booking r.timeline start end l.units) where
+  -- with a matrix, and not as a companion
+  pub booked-category : r.matrix.present ≡ true → l.companion ≡ false → with_last (Some category) (with_timeline t r) ≡ booked start end category l r
+  unfolding booked last_after
+  booked-category p q = rw (e, p, q) refl
 
-pub book-ok : (t : ResourceTimeline) (start end category u : ℕ) (r : Result ResourceTimeline Refusal) → timeline.valid t ≡ true → t.len < 64 → Bookable start end category → 1 ≤ u → u ≤ 10000
-    → booked_of t r ≡ book_reply t start end u → r ≡ Ok (with_booking t start end u)
-book-ok t start end category u r v room w some few e = answered-ok t (with_booking t start end u) r (e ∙ book-taken t start end category u v room w some few)
+  pub booked-companion : l.companion ≡ true → r.matrix.present ≡ true → with_timeline t r ≡ booked start end category l r
+  unfolding booked last_after
+  booked-companion q p = rw (e, p, q) refl
 
--- the category that is last then: with a matrix, and not as a companion
-module _ (r : Resource) (category : ℕ) where
-  pub last-taken : r.matrix.present ≡ true → Some category ≡ last_after r false category
-  unfolding last_after
-  last-taken p = rw p refl
-
-  pub last-companion : r.matrix.present ≡ true → r.last ≡ last_after r true category
-  unfolding last_after
-  last-companion p = rw p refl
-
-  pub last-plain : (companion : Bool) → r.matrix.present ≡ false → r.last ≡ last_after r companion category
-  unfolding last_after
-  last-plain companion p = rw p refl
-
-pub booked-with : (r : Resource) (t : ResourceTimeline) (last : Option ℕ) (start end category : ℕ) (l : Line) → t ≡ with_booking r.timeline start end l.units
-    → last ≡ last_after r l.companion category → with_last last (with_timeline t r) ≡ booked start end category l r
-unfolding booked
-booked-with r t last start end category l e q = rw (e, q) refl
+  pub booked-plain : r.matrix.present ≡ false → with_timeline t r ≡ booked start end category l r
+  unfolding booked last_after
+  booked-plain p = rw (e, p) refl
 
 -- the lines that are left
 abbrev pub lines_from : Commitment → ℕ → List Line

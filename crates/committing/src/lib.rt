@@ -18,16 +18,12 @@ fn book_on(r: Resource, start: u64, end: u64, category: u8, units: u32, companio
     requires { (timeline.valid r.timeline ≡ true) × (r.timeline.len < 64) × Bookable start end category × UnitsInRange units }
     ensures { result ≡ booked start end category (line_with r.number units companion) r }
 {
-    let timeline = r.timeline.try_book(start, end, units).unwrap();
-    let last = if r.matrix.present && !companion {
-        Some(category)
+    let timeline = r.timeline.book(start, end, units).timeline;
+    let booked = Resource { timeline, ..r };
+    if r.matrix.present && !companion {
+        board::with_last(booked, Some(category))
     } else {
-        r.last
-    };
-    Resource {
-        timeline,
-        last,
-        ..r
+        booked
     }
 }
 

@@ -114,6 +114,6 @@ pub fn member_of(
     Member {
         place,
         units: if 0 < g.next { 1 } else { q.usage },
-        from: t.max(p.arrival).max(g.start),
+        from: cells::later(cells::later(t, p.arrival), g.start),
     }
 }

@@ -17,4 +17,4 @@ returns c =
     elim c.if-serves.branch [ then-serves u ↦ rw (told ∙ u.if-serves.true) (u.place-is ∙ u.seat_of-place.ensures) | else-serves u ↦ rw (told ∙ u.if-serves.false) u.place-is ] in
     let units : c.if-g-gt0.result ≡ cond (ltb 0 g.next) 1 c.args.q.usage =
     elim c.if-g-gt0.branch [ then-g-gt0 u ↦ rw (lt-ltb 0 g.next u.if-g-gt0.true) u.result-is | else-g-gt0 u ↦ rw (le-ltb 0 g.next u.if-g-gt0.false) u.result-is ] in
-    rw (place, units, c.max-2.ensures, c.max.ensures) refl
+    rw (place, units, c.later-2.ensures, c.later.ensures) refl

@@ -33,13 +33,13 @@ loop-i-init c =
     let q = c.cells_before-first.result in (
       (rules_of t c.requires.t_value.0).room,
       walk_start _ (plain t c.requires.t_value.0 c.requires.capacity_value) _ _ _ _ c.requires.t_value.1 n.few n.low
-          (elim c.if-first-gt0.branch [ then-first-gt0 w ↦ omega (arith, w.max-at.ensures, w.at-is, before-pos t.latest q w.if-first-gt0.true) | else-first-gt0 w ↦ omega (arith, before-zero t.latest q w.if-first-gt0.false) ]),
+          (elim c.if-first-gt0.branch [ then-first-gt0 w ↦ omega (arith, w.later-at.ensures, w.at-is, before-pos t.latest q w.if-first-gt0.true) | else-first-gt0 w ↦ omega (arith, before-zero t.latest q w.if-first-gt0.false) ]),
     )
 
 pub loop-i-preserved : goal.loop-i-preserved
 loop-i-preserved c =
     let v = c.loop-i.invariant in
-    (v.0, walk_step _ (plain _ c.requires.t_value.0 c.requires.capacity_value) _ _ _ _ _ v.1 c.loop-i-test.true c.if-t-i.false c.max-at-in-loop-i.ensures)
+    (v.0, walk_step _ (plain _ c.requires.t_value.0 c.requires.capacity_value) _ _ _ _ _ v.1 c.loop-i-test.true c.if-t-i.false c.later-at-in-loop-i.ensures)
 
 pub returns-after-loop-i : goal.returns-after-loop-i
 returns-after-loop-i c =
