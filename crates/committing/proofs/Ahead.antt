@@ -33,7 +33,7 @@ use Rattle.commit_checks.proofs.Refusing.{Commitment, whole_of, Fine}
 
 -- a booking that is not refused
 pub book-taken : (t : ResourceTimeline) (start end category u : ℕ) → timeline.valid t ≡ true → t.len < 64 → Bookable start end category → 1 ≤ u → u ≤ 10000
-    → (book_reply t start end u).timeline ≡ with_booking t start end u
+    → book_reply t start end u ≡ record { refusal = 0; timeline = with_booking t start end u }
 unfolding book_reply book_refusal taken
 book-taken t start end category u v room w some few =
     let s : ltb (2 ^ 42) start ≡ false = le-ltb (2 ^ 42) start (omega (arith, w.order, w.range)) in
