@@ -4,7 +4,7 @@
 mod lines;
 
 use calendar::Refusal;
-pub use lines::text;
+pub use lines::{put_refused, text};
 
 // What a record prints; `Nothing` prints nothing. An enum of its own: the definition `line_of` reads it.
 #[derive(Clone, Copy)]

@@ -3,10 +3,8 @@ ghost use Rattle.std.specs.Prelude.{◌+◌, ◌≤◌, length};
 ghost use Rattle.record_texts.specs.Text.{Put};
 ghost use Rattle.record_diary_text.specs.Lines.{line_of, text_of, line as printed};
 ghost use Rattle.timeline.specs.Ask.{fit, refused};
-ghost use Rattle.calendar.specs.Replies.{number_of};
 
 use crate::Line;
-use calendar::Refusal;
 use record_texts::{put, put_number, put_value};
 
 // `fit START END`.
@@ -21,14 +19,14 @@ fn put_fit(out: &mut [u8], at: usize, start: u64, end: u64) -> usize
     put(out, c, b"\n")
 }
 
-// `refused N`.
-fn put_refused(out: &mut [u8], at: usize, refusal: Refusal) -> usize
+// `refused N`, for any number.
+pub fn put_refused(out: &mut [u8], at: usize, n: u8) -> usize
     requires { at + 46 ≤ length out.old }
-    ensures put { Put out.old at (text_of (printed (refused (number_of refusal)))) out.new result }
+    ensures put { Put out.old at (text_of (printed (refused n))) out.new result }
     ensures upper_bound { result ≤ at + 46 }
 {
     let a = put(out, at, b"refused ");
-    let b = put_number(out, a, u64::from(refusal.number()));
+    let b = put_number(out, a, u64::from(n));
     put(out, b, b"\n")
 }
 
@@ -42,6 +40,6 @@ pub fn text(line: Line, out: &mut [u8], at: usize) -> usize
         Line::Nothing => at,
         Line::Fit(start, end) => put_fit(out, at, start, end),
         Line::None => put(out, at, b"none\n"),
-        Line::Refused(refusal) => put_refused(out, at, refusal),
+        Line::Refused(refusal) => put_refused(out, at, refusal.number()),
     }
 }

@@ -11,7 +11,7 @@ ghost use Rattle.timeline.specs.Valid.{valid};
 ghost use Rattle.timeline.specs.Book.{calendar_reply};
 
 use calendar::{Calendar, Refusal};
-use timeline::ResourceTimeline;
+use timeline::{Booked, ResourceTimeline};
 
 // The diary's reply, given its calendar's: 15 a diary that breaks the rules, then the calendar's number.
 #[tactic(auto, unfolding(timeline::specs::Book::calendar_reply, timeline::specs::Diary::with_calendar))]
@@ -27,6 +27,26 @@ pub fn calendar_reply(
     }
     let calendar = added?;
     Ok(ResourceTimeline { calendar, ..t })
+}
+
+// The same as a struct of both, as `book` answers, for a caller that has a number of its own, 0 for none, and a calendar beside it.
+pub fn calendar_booked(t: ResourceTimeline, refusal: u8, given: Calendar) -> Booked
+    ensures value { result ≡ calendar_reply t (record { refusal = refusal; calendar = given }) }
+    ensures timeline_value { valid t ≡ true → calendar.valid given ≡ true → valid result.timeline ≡ true }
+{
+    if !timeline::is_valid(t) {
+        return Booked {
+            refusal: 15,
+            timeline: t,
+        };
+    }
+    Booked {
+        refusal,
+        timeline: ResourceTimeline {
+            calendar: given,
+            ..t
+        },
+    }
 }
 
 // Adds a window to the diary's calendar, or refuses as the calendar does.

@@ -18,4 +18,4 @@ returns-in-None c = rw c.in-None.is (record { put = c.put.ensures; upper_bound =
 
 pub returns-in-Refused : goal.returns-in-Refused
 unfolding line_of
-returns-in-Refused c = rw c.in-Refused.is (record { put = c.put_refused.ensures.put; upper_bound = c.put_refused.ensures.upper_bound })
+returns-in-Refused c = rw (c.in-Refused.is, ← c.number.ensures) (record { put = c.put_refused.ensures.put; upper_bound = c.put_refused.ensures.upper_bound })
