@@ -10,6 +10,7 @@ use lib.Dec.{leb, ltb, eqb}
 use lib.Seq.{drop-cons, get_or-take, take-length}
 use borrow.Author.Tests.{lt-leb, le-ltb, eq-eqb}
 use Rattle.calendar.specs.Search.{at}
+use Rattle.timeline.specs.declared.Booked.{Booked}
 use Rattle.timeline.specs.declared.ResourceTimeline.{ResourceTimeline}
 use Rattle.timeline.specs.Book.{book_refusal, taken, book_reply, with_booking}
 use Rattle.timeline.specs.Valid as timeline
@@ -43,6 +44,11 @@ book-taken t start end category u v room w some few =
     let n : ltb 10000 u ≡ false = le-ltb 10000 u few in
     let f : leb 64 t.len ≡ false = lt-leb 64 t.len room in
     rw (v, s, e, o, m, n, f) refl
+
+-- the diary that it hands back
+pub booked-diary : (t : ResourceTimeline) (start end category u : ℕ) (b : Booked) → timeline.valid t ≡ true → t.len < 64 → Bookable start end category → 1 ≤ u → u ≤ 10000
+    → b ≡ book_reply t start end u → b.timeline ≡ with_booking t start end u
+booked-diary t start end category u b v room w some few e = ap (λ (x : Booked). x.timeline) (e ∙ book-taken t start end category u v room w some few)
 
 module _ (r : Resource) (t : ResourceTimeline) (start end category : ℕ) (l : Line) (e : t ≡ with_booking r.timeline start end l.units) where
   -- with a matrix, and not as a companion

@@ -39,7 +39,8 @@ fn renew(timeline: ResourceTimeline, capacity: u64) -> Result<ResourceTimeline, 
 // Kind 4: a booking.
 fn booking(timeline: ResourceTimeline, bytes: &[u8], at: usize) -> Result<ResourceTimeline, Refusal>
     requires { at + 20 ≤ length bytes.now }
-    ensures { booked_of timeline result ≡ book_reply timeline (little bytes.now at 8) (little bytes.now (at + 8) 8) (little bytes.now (at + 16) 4) }
+    ensures { booked_of timeline result
+        ≡ book_reply timeline (little bytes.now at 8) (little bytes.now (at + 8) 8) (little bytes.now (at + 16) 4) }
 {
     let units = number(bytes, at + 16, 4) as u32;
     timeline.try_book(number(bytes, at, 8), number(bytes, at + 8, 8), units)
@@ -109,8 +110,8 @@ fn ask_body(bytes: &[u8], at: usize) -> (u64, u64, u32)
     (from, span, units)
 }
 
-// What one record does, its body beginning at `at`. (Each change is told by itself: told behind `change`, whose match puts the diary into one
-// Result more, a stream of new diaries took a third longer.)
+// What one record does, its body beginning at `at`. (Each change is told by itself: told behind `change`, whose match puts the diary into
+// one Result more, a stream of new diaries took a third longer.)
 #[tactic(auto, unfolding(crate::specs::Records::record_does, record_bodies::specs::Bodies::diary_len))]
 pub fn step(timeline: ResourceTimeline, kind: DiaryKind, bytes: &[u8], at: usize) -> DiaryStepped
     requires { at + diary_len (diary_number kind) ≤ length bytes.now }
