@@ -57,5 +57,9 @@ pub fn earliest_resumable(
         return Err(Refusal::Invalid);
     }
     check_ask(from, work, units)?;
-    Ok(timeline_resume::earliest_resumable(t, from, work, units))
+    // By cases, though each is told as it is: a wrong start told is then refused for what it is (start_as_asked; docs/DESIGN-PASS.md).
+    match timeline_resume::earliest_resumable(t, from, work, units) {
+        Some((start, end)) => Ok(Some((start, end))),
+        None => Ok(None),
+    }
 }

@@ -1,15 +1,9 @@
 -- `timeline_asks::earliest_resumable` meets its contract.
-use Rattle.std.proofs.Common.{rules, ◌≡◌, sym, ap, ◌∙◌, refl, Err, Ok, Option, Some, None, ℕ}
-use Rattle.timeline_resume.specs.Steps.{resumable_of}
+use Rattle.std.proofs.Common.{rules, ◌≡◌, sym, ap, ◌∙◌, refl, Err}
 use Rattle.calendar.specs.Laws.Refusals.{numbered}
 use Rattle.timeline_asks.specs.Answers.{reply_of}
 use Rattle.timeline_asks.proofs.Replies.{asked-15, asked-refused, asked-reply, lawful}
 use Rattle.timeline_asks.proofs.earliest_resumable.Goals as goal
-
--- a start with its end, or none, told as it is
-told : (x : Option (ℕ × ℕ)) → reply_of (Ok x) ≡ resumable_of x
-told (Some p) = refl
-told None = refl
 
 pub returns-then-not-is_valid : goal.returns-then-not-is_valid
 returns-then-not-is_valid c = asked-15 _ _ _ _ _ (sym c.is_valid.ensures ∙ c.if-not-is_valid.true)
@@ -24,7 +18,12 @@ earliest_resumable-requires c =
     let l = lawful _ _ _ (sym c.in_ok-check_ask.ensures) in
     (sym c.is_valid.ensures ∙ c.if-not-is_valid.false, l.from_range, l.span_range)
 
-pub returns : goal.returns
-returns c =
+pub returns-in-Some : goal.returns-in-Some
+returns-in-Some c =
     let v = sym c.is_valid.ensures ∙ c.if-not-is_valid.false in
-    told c.earliest_resumable.result ∙ c.earliest_resumable.ensures ∙ asked-reply _ _ _ _ _ 0 v c.in_ok-check_ask.ensures refl
+    c.in-Some.ensures ∙ asked-reply _ _ _ _ _ 0 v c.in_ok-check_ask.ensures refl
+
+pub returns-in-None : goal.returns-in-None
+returns-in-None c =
+    let v = sym c.is_valid.ensures ∙ c.if-not-is_valid.false in
+    c.in-None.ensures ∙ asked-reply _ _ _ _ _ 0 v c.in_ok-check_ask.ensures refl
