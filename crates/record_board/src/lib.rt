@@ -24,8 +24,10 @@ fn signed(bits: u64) -> i64
     bits.cast_signed()
 }
 
-// Kinds 1 to 4: as in `slot`, on the diary in hand.
+// Kinds 1 to 4: as in `slot`, on the diary in hand. (Never inlined, as the two below: whoever reads a record would have the boards of all
+// three in its frame, and set them to 0 for every record.)
 #[tactic(auto, using(calendar::specs::Laws::Refusals::numbered), unfolding(crate::specs::Records::diary_does, crate::specs::Records::diary_told, crate::specs::Records::refusal_of, record_diary::specs::Records::books))]
+#[inline(never)]
 fn on_diary(desk: Desk, change: Change, bytes: &[u8], at: usize) -> Result<Desk, Refusal>
     requires { at + diary_len (change_number change) ≤ length bytes.now }
     ensures { stepped_of desk result ≡ diary_does desk (change_number change) bytes.now at }
@@ -36,6 +38,7 @@ fn on_diary(desk: Desk, change: Change, bytes: &[u8], at: usize) -> Result<Desk,
 
 // Kind 16: the diary in hand goes to the board, and an empty one is in hand.
 #[tactic(auto, using(calendar::specs::Laws::Refusals::numbered), unfolding(crate::specs::Records::add_does, crate::specs::Records::added))]
+#[inline(never)]
 fn add(desk: Desk, bytes: &[u8], at: usize, count: usize) -> Result<Desk, Refusal>
     requires { at + 11 + count ≤ length bytes.now }
     ensures { stepped_of desk result ≡ add_does desk bytes.now at count }
@@ -60,6 +63,7 @@ fn add(desk: Desk, bytes: &[u8], at: usize, count: usize) -> Result<Desk, Refusa
 
 // Kinds 17 to 20: an entry of the board.
 #[tactic(auto, unfolding(crate::specs::Records::entry_reply, record_bodies::specs::Bodies::fixed_len))]
+#[inline(never)]
 fn entry(board: Board, entry: Entry, bytes: &[u8], at: usize) -> Result<Board, Refusal>
     requires { at + fixed_len (entry_number entry) ≤ length bytes.now }
     ensures { entered_of board result ≡ entry_reply board (entry_number entry) bytes.now at }
